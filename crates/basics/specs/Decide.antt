@@ -1,0 +1,37 @@
+-- What a test answers, and lists as functions of an index. Definitions first, then their laws. Assumes nothing.
+use mathlib.Core.Path.{_≡_, refl}
+use mathlib.Core.Logic.{_≢_, _↔_, by-cases}
+use mathlib.Core.Bool.{Bool, true, false}
+use mathlib.Core.List.{List}
+use Prim.Native.Nat.{ℕ}
+use lib.Dec.{eqb}
+use lib.ListN.{getD}
+use borrow.Author.Tests.{eq-eqb, ne-eqb, eqb-true, eqb-false}
+
+-- b is the answer to P: true with a proof of P, or false with a proof of its opposite
+abbrev pub Decides : Bool → Type 0 → Type 0
+Decides true P = P
+Decides false P = P → ⊥
+
+-- the number at an index of a list, 0 past its end
+abbrev pub at : List ℕ → ℕ → ℕ
+at xs n = getD xs n 0
+
+pub decides-iff : {P Q : Type 0} (b : Bool) → P ↔ Q → Decides b P → Decides b Q
+decides-iff true e d = e .0 d
+decides-iff false e d = λ q. d (e .1 q)
+
+pub decides-true : {P : Type 0} {b : Bool} → Decides b P → P → b ≡ true
+decides-true {b = true} d p = refl
+decides-true {b = false} d p = absurd (d p)
+
+pub decides-false : {P : Type 0} {b : Bool} → Decides b P → (P → ⊥) → b ≡ false
+decides-false {b = true} d p = absurd (p d)
+decides-false {b = false} d p = refl
+
+pub decides-eqb : (a b : ℕ) → Decides (eqb a b) (a ≡ b)
+decides-eqb a b = go (eqb a b) refl
+  where
+    go : (x : Bool) → eqb a b ≡ x → Decides x (a ≡ b)
+    go true e = eqb-true a b e
+    go false e = eqb-false a b e

@@ -1,0 +1,154 @@
+-- The reference model, document 01's shelf: a full copy of every living version, with a mark for each of its rows.
+-- It computes, and it knows nothing of trees, tables or places. Assumes nothing.
+use mathlib.Core.Bool.{Bool, true, false, not, _&&_, _||_, cond}
+use mathlib.Core.List.{List, [], _∷_}
+use mathlib.Core.Option.{Option, none, some}
+use Prim.Native.Nat.{ℕ, zero, suc, pred, _-_, _*_}
+use lib.Dec.{eqb, leb, ltb}
+use lib.ListN.{length, replicate}
+use Rattle.measures.specs.declared.Size.{Size}
+use Rattle.model.specs.Call.{Call, snapshot, read, write, delete, count, Refusal, bad-size, bad-length, bad-row, zero-tag, origin-tag, unknown-tag, tag-alive, snapshots-full, places-full, Answer, done, row, counts, refused}
+
+-- a tag and a row
+abbrev pub Cell : Type 0
+Cell = ℕ × ℕ
+
+pub record Model : Type 0 where
+  -- the tags that live besides the origin's
+  pub snapshots : List ℕ
+  -- of each row of a living version, its bytes and its mark
+  pub bytes : Cell → List ℕ
+  pub mark : Cell → ℕ
+  -- the next mark: every mark given so far is below it
+  pub next : ℕ
+
+-- Lists: some element passes; how many different values f has on it
+
+unfoldable pub any : {A : Type 0} → (A → Bool) → List A → Bool
+any p [] = false
+any p (x ∷ xs) = p x || any p xs
+
+unfoldable pub different : {A : Type 0} → (A → ℕ) → List A → ℕ
+different f [] = 0
+different f (x ∷ xs) = cond (any (λ y. eqb (f x) (f y)) xs) (different f xs) (suc (different f xs))
+
+-- Who lives
+
+abbrev pub living : List ℕ → List ℕ
+living tags = 0 ∷ tags
+
+unfoldable pub alive : List ℕ → ℕ → Bool
+alive tags t = any (eqb t) (living tags)
+
+unfoldable pub snapshotsAlive : List ℕ → ℕ
+snapshotsAlive tags = pred (different (λ t. t) (living tags))
+
+-- (t, 0) .. (t, n - 1), in front of cs; then the same for every tag of a list
+abbrev pub rowsOf : ℕ → ℕ → List Cell → List Cell
+rowsOf t zero cs = cs
+rowsOf t (suc n) cs = (t, n) ∷ rowsOf t n cs
+
+abbrev pub cells : ℕ → List ℕ → List Cell
+cells n [] = []
+cells n (t ∷ ts) = rowsOf t n (cells n ts)
+
+-- Marks: a row is shared if another living version has its mark; places in use are the different marks
+
+unfoldable pub shared : List ℕ → (Cell → ℕ) → ℕ → ℕ → Bool
+shared tags mark t r = any (λ u. not (eqb u t) && eqb (mark (u, r)) (mark (t, r))) (living tags)
+
+unfoldable pub placesUsed : ℕ → List ℕ → (Cell → ℕ) → ℕ
+placesUsed n tags mark = different mark (cells n (living tags))
+
+-- The tests of each call, in document 01's order: the first that holds refuses
+
+abbrev pub Tests : Type 0
+Tests = List (Bool × Refusal)
+
+-- one test in front: it refuses, or the rest decides
+abbrev pub orElse : Bool → Refusal → Option Refusal → Option Refusal
+orElse true r rest = some r
+orElse false r rest = rest
+
+unfoldable pub refusal : Tests → Option Refusal
+refusal [] = none
+refusal (t ∷ ts) = orElse (t .0) (t .1) (refusal ts)
+
+-- a buffer of places and the two halves of a table, by their lengths
+unfoldable pub openTests : Size → ℕ → ℕ → ℕ → Tests
+openTests z places nodes rows =
+    (not (leb 1 (z .rows) && leb (z .rows) 1024), bad-size)
+    ∷ (not (leb 1 (z .width) && leb (z .width) 1024), bad-size)
+    ∷ (not (leb (z .rows) (z .places) && leb (z .places) 4096), bad-size)
+    ∷ (not (eqb places (z .places * z .width)), bad-length)
+    ∷ (not (eqb nodes (z .places - z .rows) && eqb rows (z .places - z .rows)), bad-length)
+    ∷ []
+
+module _ (z : Size) (tags : List ℕ) (mark : Cell → ℕ) where
+  unfoldable pub tests : Call → Tests
+  tests (snapshot s t) =
+      (eqb t 0, zero-tag) ∷ (not (alive tags s), unknown-tag) ∷ (alive tags t, tag-alive) ∷ (leb 64 (snapshotsAlive tags), snapshots-full) ∷ []
+  tests (read t r) = (leb (z .rows) r, bad-row) ∷ (not (alive tags t), unknown-tag) ∷ []
+  tests (write t r bs) =
+      (not (eqb (length bs) (z .width)), bad-length) ∷ (leb (z .rows) r, bad-row) ∷ (not (alive tags t), unknown-tag)
+      ∷ (shared tags mark t r && leb (z .places) (placesUsed (z .rows) tags mark), places-full) ∷ []
+  tests (delete t) = (eqb t 0, origin-tag) ∷ (not (alive tags t), unknown-tag) ∷ []
+  tests count = []
+
+  -- the answer of a call that is accepted, from the bytes of the rows
+  unfoldable pub accepted : (Cell → List ℕ) → Call → Answer
+  accepted bytes (snapshot s t) = done
+  accepted bytes (read t r) = row (bytes (t, r))
+  accepted bytes (write t r bs) = done
+  accepted bytes (delete t) = done
+  accepted bytes count = counts (placesUsed (z .rows) tags mark) (snapshotsAlive tags)
+
+-- refused with its reason, or else
+abbrev pub unless {ℓ} : {A : Type ℓ} → Option Refusal → (Refusal → A) → A → A
+unless none f a = a
+unless (some r) f a = f r
+
+-- What an accepted call does
+
+-- t gets what s has
+unfoldable pub adopt : {A : Type 0} → ℕ → ℕ → (Cell → A) → Cell → A
+adopt s t f c = f (cond (eqb (c .0) t) s (c .0), c .1)
+
+-- f, but v at c
+unfoldable pub put : {A : Type 0} → Cell → A → (Cell → A) → Cell → A
+put c v f d = cond (eqb (d .0) (c .0) && eqb (d .1) (c .1)) v (f d)
+
+unfoldable pub without : ℕ → List ℕ → List ℕ
+without t [] = []
+without t (u ∷ us) = cond (eqb u t) (without t us) (u ∷ without t us)
+
+unfoldable pub effect : Model → Call → Model
+effect m (snapshot s t) = record { snapshots = t ∷ m .snapshots; bytes = adopt s t (m .bytes); mark = adopt s t (m .mark); next = m .next }
+effect m (read t r) = m
+effect m (write t r bs) = record { snapshots = m .snapshots; bytes = put (t, r) bs (m .bytes); mark = put (t, r) (m .next) (m .mark); next = suc (m .next) }
+effect m (delete t) = record { snapshots = without t (m .snapshots); bytes = m .bytes; mark = m .mark; next = m .next }
+effect m count = m
+
+module _ (z : Size) where
+  -- the origin alone, its bytes zero, with L different marks
+  unfoldable pub opened : Model
+  opened = record { snapshots = []; bytes = λ c. replicate (z .width) 0; mark = λ c. c .1; next = z .rows }
+
+  unfoldable pub verdict : Model → Call → Option Refusal
+  verdict m c = refusal (tests z (m .snapshots) (m .mark) c)
+
+  -- one call: its answer, and the model after it; a refusal changes nothing
+  unfoldable pub answer : Model → Call → Answer
+  answer m c = unless (verdict m c) refused (accepted z (m .snapshots) (m .mark) (m .bytes) c)
+
+  unfoldable pub after : Model → Call → Model
+  after m c = unless (verdict m c) (λ r. m) (effect m c)
+
+  -- any list of calls
+  unfoldable pub answers : Model → List Call → List Answer
+  answers m [] = []
+  answers m (c ∷ cs) = answer m c ∷ answers (after m c) cs
+
+  unfoldable pub final : Model → List Call → Model
+  final m [] = m
+  final m (c ∷ cs) = final (after m c) cs

@@ -1,0 +1,51 @@
+-- The reference model's answers on document 01's worked stream, and on a stream with every refusal, by evaluation. Assumes nothing.
+use mathlib.Core.Path.{_≡_, refl}
+use mathlib.Core.List.{List, [], _∷_, map}
+use mathlib.Core.Option.{Option, none, some}
+use Prim.Native.Nat.{ℕ, zero, suc}
+use lib.ListN.{replicate}
+use Rattle.measures.specs.declared.Size.{Size}
+use Rattle.model.specs.Call.{Call, snapshot, read, write, delete, count, bad-size, bad-length, Answer, done, row, counts, refused, bad-row, zero-tag, origin-tag, unknown-tag, tag-alive, snapshots-full, places-full, numberOf, usedOf, snapshotsOf, rowOf}
+use Rattle.model.specs.Model.{any, different, alive, snapshotsAlive, shared, placesUsed, refusal, openTests, tests, accepted, adopt, put, without, effect, opened, verdict, answer, after, answers, final}
+
+-- L = 4, B = 8, P = 6
+abbrev small : Size
+small = record { rows = 4; width = 8; places = 6 }
+
+eight : ℕ → List ℕ
+eight b = replicate 8 b
+
+stream : List Call
+stream = snapshot 0 7 ∷ write 0 2 (eight 0xa1) ∷ read 7 2 ∷ read 0 2 ∷ count ∷ delete 7 ∷ count ∷ read 7 0 ∷ []
+
+-- lines 1 to 8 of document 01's output
+worked : answers small (opened small) stream
+    ≡ done ∷ done ∷ row (eight 0) ∷ row (eight 0xa1) ∷ counts 5 1 ∷ done ∷ counts 4 0 ∷ refused unknown-tag ∷ []
+unfolding stream eight any different alive snapshotsAlive shared placesUsed refusal tests accepted adopt put without effect opened verdict answer after answers
+worked = refl
+
+-- two rows of one byte, three places
+abbrev tiny : Size
+tiny = record { rows = 2; width = 1; places = 3 }
+
+refusals : answers tiny (opened tiny)
+    (snapshot 0 7 ∷ write 0 1 (5 ∷ []) ∷ write 7 0 (9 ∷ []) ∷ snapshot 0 0 ∷ snapshot 8 8 ∷ snapshot 7 7 ∷ read 0 2 ∷ read 8 0 ∷ write 0 0 [] ∷ write 0 2 [] ∷ delete 0 ∷ delete 8 ∷ write 0 1 (5 ∷ []) ∷ count ∷ [])
+    ≡ done ∷ done ∷ refused places-full ∷ refused zero-tag ∷ refused unknown-tag ∷ refused tag-alive ∷ refused bad-row ∷ refused unknown-tag ∷ refused bad-length ∷ refused bad-length ∷ refused origin-tag ∷ refused unknown-tag ∷ done ∷ counts 3 1 ∷ []
+unfolding any different alive snapshotsAlive shared placesUsed refusal tests accepted adopt put without effect opened verdict answer after answers
+refusals = refl
+
+snapshotsOfOrigin : ℕ → List Call
+snapshotsOfOrigin zero = []
+snapshotsOfOrigin (suc n) = snapshot 0 (suc n) ∷ snapshotsOfOrigin n
+
+-- the 65th snapshot is refused
+too-many : answer tiny (final tiny (opened tiny) (snapshotsOfOrigin 64)) (snapshot 0 99) ≡ refused snapshots-full
+unfolding snapshotsOfOrigin any different alive snapshotsAlive shared placesUsed refusal tests accepted adopt put without effect opened verdict answer after final
+too-many = refl
+
+-- opening: L = 4, B = 8, P = 6 with its buffers; L = 0; P below L; a byte of the places missing; an entry of the table missing
+opens : map (λ (t : ℕ × (ℕ × ℕ)). refusal (openTests (record { rows = t .0; width = 8; places = 6 }) (t .1 .0) (t .1 .1) (t .1 .1)))
+    ((4, (48, 2)) ∷ (0, (48, 6)) ∷ (7, (48, 0)) ∷ (4, (47, 2)) ∷ (4, (48, 1)) ∷ [])
+    ≡ none ∷ some bad-size ∷ some bad-size ∷ some bad-length ∷ some bad-length ∷ []
+unfolding refusal openTests
+opens = refl

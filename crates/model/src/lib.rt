@@ -1,0 +1,1 @@
+// The reference model, in specs/. There is no code here, and nothing of the store.

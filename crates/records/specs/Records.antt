@@ -1,0 +1,99 @@
+-- The records of a store (document 01, "The records"). Definitions only. Assumes nothing.
+--
+--   tree (state, tag, parent of 128 nodes)         table (a node and a row for each snapshot place)
+--
+--           0  alive, tag 0: the origin              place    L    L+1   L+2   L+3  ..  P-1
+--           |                                        node     1     0     3     4        0
+--           1  ghost                                 row      2     0     2     0        0
+--          / \                                                |   free    |     |
+--         3   4  alive, tags 7 and 9                          |           |     |
+--         |                                                   |           |     node 4's own row 0
+--         2  alive, tag 8                                     |           node 3's own row 2
+--                                                             node 1's own row 2
+--   places (P stretches of B bytes)
+--
+--     | 0 | 1 | 2 | .. | L-1 |  L  | L+1 | L+2 | L+3 | .. | P-1 |
+--      the origin's rows      |  snapshot places: one for each entry of the table
+--
+--   Row 2 of tag 7 and of tag 8 is in place L+2, row 2 of tag 9 in place L, row 2 of the origin in place 2.
+use mathlib.Core.Path.{_≡_}
+use mathlib.Core.Logic.{_≢_}
+use mathlib.Core.Bool.{Bool, not, _&&_}
+use mathlib.Core.List.{List}
+use mathlib.Core.Option.{Option}
+use Prim.Native.Nat.{ℕ, zero, suc, _+_, _<_}
+use lib.Dec.{eqb}
+use lib.ListN.{length}
+use Rattle.basics.specs.Decide.{at}
+use Rattle.basics.specs.Count.{count, first}
+use Rattle.measures.specs.declared.Size.{Size}
+use Rattle.records.specs.declared.Tree.{Tree}
+
+-- The exceptions. Entry i stands for place rows + i: it has a node, 0 if the place is free, and a row.
+pub record Table : Type 0 where
+  pub rows : ℕ
+  pub node : List ℕ
+  pub row : List ℕ
+
+pub record Records : Type 0 where
+  pub size : Size
+  pub tree : Tree
+  pub node : List ℕ
+  pub row : List ℕ
+
+abbrev pub table : Records → Table
+table z = record { rows = z .size .rows; node = z .node; row = z .row }
+
+-- Nodes
+
+abbrev pub InUse : Tree → ℕ → Type 0
+InUse t n = (n < 128) × (at (t .state) n ≢ 0)
+
+abbrev pub Alive : Tree → ℕ → Type 0
+Alive t n = (n < 128) × (at (t .state) n ≡ 1)
+
+abbrev pub Ghost : Tree → ℕ → Type 0
+Ghost t n = (n < 128) × (at (t .state) n ≡ 2)
+
+-- a living version other than the origin
+abbrev pub Snapshot : Tree → ℕ → Type 0
+Snapshot t n = (n ≢ 0) × Alive t n
+
+abbrev pub up : Tree → ℕ → ℕ
+up t n = at (t .parent) n
+
+-- c is a child of p: a node in use, other than node 0, whose parent is p
+abbrev pub Child : Tree → ℕ → ℕ → Type 0
+Child t p c = (c ≢ 0) × InUse t c × (up t c ≡ p)
+
+-- the k-th node above n
+unfoldable pub ancestor : (ℕ → ℕ) → ℕ → ℕ → ℕ
+ancestor f zero n = n
+ancestor f (suc k) n = ancestor f k (f n)
+
+-- going up from n reaches node 0
+abbrev pub Reaches : (ℕ → ℕ) → ℕ → Type 0
+Reaches f n = (k : ℕ) × (ancestor f k n ≡ 0)
+
+-- Counts
+
+unfoldable pub isSnapshot : Tree → ℕ → Bool
+isSnapshot t n = not (eqb n 0) && eqb (at (t .state) n) 1
+
+unfoldable pub snapshots : Tree → ℕ
+snapshots t = count (isSnapshot t) 128
+
+unfoldable pub taken : Table → ℕ → Bool
+taken e i = not (eqb (at (e .node) i) 0)
+
+-- places in use: the origin's, and the snapshot places that are not free
+unfoldable pub used : Table → ℕ
+used e = e .rows + count (taken e) (length (e .node))
+
+-- Versions: the living node with a tag
+
+unfoldable pub isVersion : Tree → ℕ → ℕ → Bool
+isVersion t tag n = eqb (at (t .state) n) 1 && eqb (at (t .tag) n) tag
+
+unfoldable pub version : Tree → ℕ → Option ℕ
+version t tag = first (isVersion t tag) 128
