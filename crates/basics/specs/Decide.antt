@@ -1,12 +1,12 @@
 -- What a test answers, and lists as functions of an index. Definitions first, then their laws. Assumes nothing.
 use mathlib.Core.Path.{_≡_, refl}
-use mathlib.Core.Logic.{_≢_, _↔_, by-cases}
-use mathlib.Core.Bool.{Bool, true, false}
+use mathlib.Core.Logic.{_≢_, _↔_}
+use mathlib.Core.Bool.{Bool, true, false, not, _&&_, false≢true}
 use mathlib.Core.List.{List}
 use Prim.Native.Nat.{ℕ}
 use lib.Dec.{eqb}
 use lib.ListN.{getD}
-use borrow.Author.Tests.{eq-eqb, ne-eqb, eqb-true, eqb-false}
+use borrow.Author.Tests.{eqb-true, eqb-false, not-true}
 
 -- b is the answer to P: true with a proof of P, or false with a proof of its opposite
 abbrev pub Decides : Bool → Type 0 → Type 0
@@ -35,3 +35,26 @@ decides-eqb a b = go (eqb a b) refl
     go : (x : Bool) → eqb a b ≡ x → Decides x (a ≡ b)
     go true e = eqb-true a b e
     go false e = eqb-false a b e
+
+-- tests joined by `and`, and turned by `not`
+
+pub and-yes : {a b : Bool} → a ≡ true → b ≡ true → (a && b) ≡ true
+and-yes p q = rw (p, q)
+
+pub and-no : (a b : Bool) → (a ≡ true → b ≡ true → ⊥) → (a && b) ≡ false
+and-no true true h = absurd (h refl refl)
+and-no true false h = refl
+and-no false b h = refl
+
+pub both : (a b : Bool) → (a && b) ≡ true → (a ≡ true) × (b ≡ true)
+both true b e = (refl, e)
+both false b e = absurd (false≢true e)
+
+pub not-yes : {b : Bool} → b ≡ false → not b ≡ true
+not-yes e = rw e
+
+pub not-no : {b : Bool} → b ≡ true → not b ≡ false
+not-no e = rw e
+
+pub not-of : (a n : ℕ) → not (eqb a n) ≡ true → a ≢ n
+not-of a n e = eqb-false a n (not-true _ e)

@@ -77,6 +77,20 @@ Reaches f n = (k : ℕ) × (ancestor f k n ≡ 0)
 
 -- Counts
 
+unfoldable pub isUsed : Tree → ℕ → Bool
+isUsed t n = not (eqb (at (t .state) n) 0)
+
+-- nodes in use, node 0 among them
+unfoldable pub nodesUsed : Tree → ℕ
+nodesUsed t = count (isUsed t) 128
+
+unfoldable pub isChild : Tree → ℕ → ℕ → Bool
+isChild t p c = not (eqb c 0) && (isUsed t c && eqb (up t c) p)
+
+-- how many children p has
+unfoldable pub children : Tree → ℕ → ℕ
+children t p = count (isChild t p) 128
+
 unfoldable pub isSnapshot : Tree → ℕ → Bool
 isSnapshot t n = not (eqb n 0) && eqb (at (t .state) n) 1
 
