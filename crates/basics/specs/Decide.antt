@@ -1,5 +1,5 @@
 -- What a test answers, and lists as functions of an index. Definitions first, then their laws. Assumes nothing.
-use mathlib.Core.Path.{_≡_, refl}
+use mathlib.Core.Path.{_≡_, refl, sym}
 use mathlib.Core.Logic.{_≢_, _↔_}
 use mathlib.Core.Bool.{Bool, true, false, not, _&&_, false≢true}
 use mathlib.Core.List.{List}
@@ -58,3 +58,12 @@ not-no e = rw e
 
 pub not-of : (a n : ℕ) → not (eqb a n) ≡ true → a ≢ n
 not-of a n e = eqb-false a n (not-true _ e)
+
+-- after a test `if !b`: what was asked holds, or it does not
+pub passed : {P : Type 0} (b : Bool) → Decides b P → not b ≡ false → P
+passed true d e = d
+passed false d e = absurd (false≢true (sym e))
+
+pub failed : {P : Type 0} (b : Bool) → Decides b P → not b ≡ true → P → ⊥
+failed true d e = absurd (false≢true e)
+failed false d e = d

@@ -67,8 +67,7 @@ module _ (f : ℕ → ℕ) where
             let hit : ancestor f k n ≡ 0 = eqb-true _ _ (s .passes) in
             let off : (j : ℕ) → j < k → ancestor f j n ≢ 0 = λ j l. eqb-false _ _ (s .least j l) in
             let apart : (i j : ℕ) → i < j → j ≤ k → ancestor f i n ≢ ancestor f j n = λ i j l h x. off (i + (k - j)) (omega arith)
-                (ancestor-more i (k - j) n ∙ ap (ancestor f (k - j)) x ∙ sym (ancestor-more j (k - j) n) ∙ ap (λ (d : ℕ). ancestor f d n) (let e : j + (k - j) ≡ k = omega arith in e) ∙ hit) in
-            (
+            (ancestor-more i (k - j) n ∙ ap (ancestor f (k - j)) x ∙ sym (ancestor-more j (k - j) n) ∙ ap (λ (d : ℕ). ancestor f d n) (let e : j + (k - j) ≡ k = omega arith in e) ∙ hit) in (
               k,
               distinct-below (λ i. ancestor f i n) (suc k) N
                   (λ i l. low _ (passes n i q (λ j h. off j (omega arith))))

@@ -1,2 +1,4 @@
 pub mod Going
 pub mod Nodes
+pub mod Rules
+pub mod Loops

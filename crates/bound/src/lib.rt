@@ -1,0 +1,1 @@
+// How many nodes sound records can use, as laws in specs/. There is no code here.

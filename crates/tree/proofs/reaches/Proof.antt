@@ -1,0 +1,58 @@
+-- `tree::reaches` meets its contract: the climb either meets node 0 or is longer than any path to it. Assumes nothing.
+use borrow.Author.Needs.{needs}
+use Prim.Native.Nat.{ℕ, _≤_, _<_, _-_}
+use mathlib.Core.Path.{_≡_, sym, _∙_}
+use native.Mathlib.Omega.{arith}
+use Rattle.tree.specs.Loops.{Climbing, climb-start, climb-step, climb-over}
+use Rattle.tree.specs.Rules.{treeOf}
+use Rattle.tree.proofs.reaches.Statement.{statement}
+use Rattle.tree.proofs.reaches.Tie as tie
+
+abbrev Inv-loop : tie.InvT-loop
+Inv-loop state tag parent n node₀ k₀ node k = Climbing (treeOf state tag parent) n node k
+
+abbrev μ-loop : tie.MeasureT-loop
+μ-loop state tag parent n node₀ k₀ node k = 128 - k
+
+loop-holds : tie.Need-loop-holds Inv-loop μ-loop
+loop-holds c = climb-start _ _ (c .pre .used)
+
+returns : tie.Need-returns Inv-loop μ-loop
+returns c = (_, sym (c .before .before .loop .inv .where-now) ∙ c .if1 .taken)
+
+element-copy-out-wide : tie.Need-element-copy-out-wide Inv-loop μ-loop
+element-copy-out-wide c = search needs
+
+wide-requires : tie.Need-wide-requires Inv-loop μ-loop
+wide-requires c κs = search needs
+
+add-k : tie.Need-add-k Inv-loop μ-loop
+add-k c = search needs
+
+loop-less : tie.Need-loop-less Inv-loop μ-loop
+loop-less c = search needs
+
+loop-again : tie.Need-loop-again Inv-loop μ-loop
+loop-again c =
+    let l = c .before .before .before .before in
+    rw (c .wide .ensures) (climb-step _ _ _ _ (l .before .pre .parents) (c .before .before .before .loop-test .taken) (c .before .before .if1 .left) (l .loop .inv))
+
+returns-2 : tie.Need-returns-2 Inv-loop μ-loop
+returns-2 c =
+    let e : c .before .loop .k ≡ 128 = omega arith in
+    climb-over _ _ _ (c .before .before .pre) (rw e at (c .before .loop .inv))
+
+pub reaches-spec : {M : Type 1} → statement M
+reaches-spec =
+    tie.close
+    (tie.spec
+    Inv-loop
+    μ-loop
+    loop-holds
+    returns
+    element-copy-out-wide
+    wide-requires
+    add-k
+    loop-less
+    loop-again
+    returns-2)
