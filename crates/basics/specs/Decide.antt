@@ -67,3 +67,12 @@ passed false d e = absurd (false≢true (sym e))
 pub failed : {P : Type 0} (b : Bool) → Decides b P → not b ≡ true → P → ⊥
 failed true d e = absurd (false≢true e)
 failed false d e = d
+
+-- the same after a test `if b`
+pub holds : {P : Type 0} (b : Bool) → Decides b P → b ≡ true → P
+holds true d e = d
+holds false d e = absurd (false≢true e)
+
+pub fails : {P : Type 0} (b : Bool) → Decides b P → b ≡ false → P → ⊥
+fails true d e = absurd (false≢true (sym e))
+fails false d e = d

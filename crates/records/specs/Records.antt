@@ -41,8 +41,18 @@ pub record Records : Type 0 where
   pub node : List ℕ
   pub row : List ℕ
 
+-- from the parts that a call is lent
+abbrev pub treeOf : List ℕ → List ℕ → List ℕ → Tree
+treeOf state tag parent = record { state = state; tag = tag; parent = parent }
+
+abbrev pub tableOf : ℕ → List ℕ → List ℕ → Table
+tableOf rows node row = record { rows = rows; node = node; row = row }
+
+abbrev pub recordsOf : Size → Tree → List ℕ → List ℕ → Records
+recordsOf size tree node row = record { size = size; tree = tree; node = node; row = row }
+
 abbrev pub table : Records → Table
-table z = record { rows = z .size .rows; node = z .node; row = z .row }
+table z = tableOf (z .size .rows) (z .node) (z .row)
 
 -- Nodes
 

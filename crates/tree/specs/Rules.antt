@@ -15,9 +15,6 @@ use Rattle.records.specs.Sound.{States, Linked, Tagged, Branching}
 use Rattle.tree.specs.declared.Found.{Found}
 use Rattle.tree.specs.declared.Found.the-variants.{At, Missing}
 
-abbrev pub treeOf : List ℕ → List ℕ → List ℕ → Tree
-treeOf state tag parent = record { state = state; tag = tag; parent = parent }
-
 abbrev pub foundOf : Option ℕ → Found
 foundOf (some n) = At n
 foundOf none = Missing

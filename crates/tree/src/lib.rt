@@ -2,9 +2,9 @@
 ghost use mathlib.Core.Path.{_≡_};
 ghost use Prim.Native.Nat.{ℕ, _<_};
 ghost use Rattle.basics.specs.Decide.{Decides};
-ghost use Rattle.records.specs.Records.{up, Reaches, snapshots, version};
+ghost use Rattle.records.specs.Records.{treeOf, up, Reaches, snapshots, version};
 ghost use Rattle.records.specs.Sound.{States, Linked, Tagged, Branching};
-ghost use Rattle.tree.specs.Rules.{treeOf, foundOf, TreeSound, NodeStates, Parent, Parents, Climbs, Tag, Counted};
+ghost use Rattle.tree.specs.Rules.{foundOf, TreeSound, NodeStates, Parent, Parents, Climbs, Tag, Counted};
 use records::Tree;
 
 pub enum Found {

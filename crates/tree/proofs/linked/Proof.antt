@@ -5,8 +5,8 @@ use mathlib.Core.Logic.{_≢_, ⊎-elim}
 use native.Mathlib.Omega.{arith}
 use borrow.Author.Count.{below-more}
 use Rattle.tree.specs.Loops.{linked-reaches}
-use Rattle.tree.specs.Rules.{treeOf, Parents}
-use Rattle.records.specs.Records.{up, Reaches}
+use Rattle.tree.specs.Rules.{Parents}
+use Rattle.records.specs.Records.{treeOf, up, Reaches}
 use Rattle.basics.specs.Decide.{at, passed, failed}
 use Rattle.tree.proofs.linked.Statement.{statement}
 use Rattle.tree.proofs.linked.Tie as tie

@@ -3,7 +3,8 @@ use borrow.Author.Needs.{needs}
 use Prim.Native.Nat.{ℕ, _≤_, _<_, _-_}
 use native.Mathlib.Omega.{arith}
 use borrow.Author.Count.{below-more}
-use Rattle.tree.specs.Rules.{treeOf, Parent}
+use Rattle.records.specs.Records.{treeOf}
+use Rattle.tree.specs.Rules.{Parent}
 use Rattle.basics.specs.Decide.{passed, failed}
 use Rattle.tree.proofs.parents.Statement.{statement}
 use Rattle.tree.proofs.parents.Tie as tie

@@ -3,8 +3,8 @@ use borrow.Author.Needs.{needs}
 use Prim.Native.Nat.{ℕ, _≤_, _<_, _-_}
 use mathlib.Core.Path.{_≡_, sym, _∙_}
 use native.Mathlib.Omega.{arith}
+use Rattle.records.specs.Records.{treeOf}
 use Rattle.tree.specs.Loops.{Climbing, climb-start, climb-step, climb-over}
-use Rattle.tree.specs.Rules.{treeOf}
 use Rattle.tree.proofs.reaches.Statement.{statement}
 use Rattle.tree.proofs.reaches.Tie as tie
 

@@ -3,8 +3,9 @@ use borrow.Author.Needs.{needs}
 use Prim.Native.Nat.{ℕ, _≤_, _<_, _-_}
 use borrow.Author.Count.{below-more}
 use native.Mathlib.Omega.{arith}
+use Rattle.records.specs.Records.{treeOf}
 use Rattle.basics.specs.Decide.{passed, failed}
-use Rattle.tree.specs.Rules.{treeOf, NodeStates, states-node, states-all}
+use Rattle.tree.specs.Rules.{NodeStates, states-node, states-all}
 use Rattle.tree.proofs.states.Statement.{statement}
 use Rattle.tree.proofs.states.Tie as tie
 

@@ -5,9 +5,9 @@ use mathlib.Core.Path.{_≡_, sym, _∙_, ap}
 use mathlib.Core.Option.{some, none}
 use native.Mathlib.Omega.{arith}
 use Rattle.tree.specs.declared.Found.the-variants.{At}
-use Rattle.records.specs.Records.{version}
+use Rattle.records.specs.Records.{treeOf, version}
 use Rattle.basics.specs.Decide.{at}
-use Rattle.tree.specs.Rules.{found-at, found-missing, treeOf}
+use Rattle.tree.specs.Rules.{found-at, found-missing}
 use Rattle.tree.proofs.tag_differs.Statement.{statement}
 use Rattle.tree.proofs.tag_differs.Tie as tie
 

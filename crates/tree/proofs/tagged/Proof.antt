@@ -3,8 +3,9 @@ use borrow.Author.Needs.{needs}
 use Prim.Native.Nat.{ℕ, _≤_, _<_, _-_}
 use native.Mathlib.Omega.{arith}
 use borrow.Author.Count.{below-more}
+use Rattle.records.specs.Records.{treeOf}
 use Rattle.tree.specs.Loops.{tag-all, tag-node}
-use Rattle.tree.specs.Rules.{treeOf, Tag}
+use Rattle.tree.specs.Rules.{Tag}
 use Rattle.basics.specs.Decide.{passed, failed}
 use Rattle.tree.proofs.tagged.Statement.{statement}
 use Rattle.tree.proofs.tagged.Tie as tie

@@ -6,10 +6,10 @@ use mathlib.Core.Logic.{_≢_, ⊎-elim}
 use native.Mathlib.Omega.{arith}
 use lib.ListN.{length, length-set}
 use Rattle.basics.specs.Decide.{at}
-use Rattle.records.specs.Records.{isChild, InUse}
+use Rattle.records.specs.Records.{treeOf, isChild, InUse}
 use Rattle.basics.specs.CountLaws.{count-most}
 use Rattle.tree.specs.Loops.{counted-first, counted-child, counted-past}
-use Rattle.tree.specs.Rules.{treeOf, Counted}
+use Rattle.tree.specs.Rules.{Counted}
 use Rattle.tree.proofs.tally.Statement.{statement}
 use Rattle.tree.proofs.tally.Tie as tie
 

@@ -7,8 +7,8 @@ use mathlib.Core.Option.{none}
 use native.Mathlib.Omega.{arith}
 use Rattle.basics.specs.CountLaws.{first-start}
 use Rattle.tree.specs.Loops.{version-here, version-past}
-use Rattle.tree.specs.Rules.{treeOf, foundOf}
-use Rattle.records.specs.Records.{isVersion, version}
+use Rattle.tree.specs.Rules.{foundOf}
+use Rattle.records.specs.Records.{treeOf, isVersion, version}
 use Rattle.basics.specs.Count.{first}
 use Rattle.tree.proofs.version.Statement.{statement}
 use Rattle.tree.proofs.version.Tie as tie
