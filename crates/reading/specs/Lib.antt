@@ -1,2 +1,3 @@
 pub mod Reads
 pub mod Lookup
+pub mod Used

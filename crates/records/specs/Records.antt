@@ -17,7 +17,7 @@
 --
 --   Row 2 of tag 7 and of tag 8 is in place L+2, row 2 of tag 9 in place L, row 2 of the origin in place 2.
 use mathlib.Core.Path.{_≡_}
-use mathlib.Core.Logic.{_≢_}
+use mathlib.Core.Logic.{_≢_, _⊎_}
 use mathlib.Core.Bool.{Bool, not, _&&_}
 use mathlib.Core.List.{List}
 use mathlib.Core.Option.{Option}
@@ -113,6 +113,10 @@ taken e i = not (eqb (at (e .node) i) 0)
 -- places in use: the origin's, and the snapshot places that are not free
 unfoldable pub used : Table → ℕ
 used e = e .rows + count (taken e) (length (e .node))
+
+-- place p is one of those
+abbrev pub PlaceUsed : Table → ℕ → Type 0
+PlaceUsed e p = (p < e .rows) ⊎ ((i : ℕ) × (i < length (e .node)) × (at (e .node) i ≢ 0) × (p ≡ e .rows + i))
 
 -- Versions: the living node with a tag
 
