@@ -1,3 +1,4 @@
 pub mod Call
 pub mod Model
+pub mod Tests
 pub mod Worked

@@ -74,14 +74,17 @@ unfoldable pub refusal : Tests → Option Refusal
 refusal [] = none
 refusal (t ∷ ts) = orElse (t .0) (t .1) (refusal ts)
 
--- a buffer of places and the two halves of a table, by their lengths
+unfoldable pub inMeasure : Size → Bool
+inMeasure z =
+    (leb 1 (z .rows) && leb (z .rows) 1024) && (leb 1 (z .width) && leb (z .width) 1024) && (leb (z .rows) (z .places) && leb (z .places) 4096)
+
+-- opening sees the lent buffers by their lengths: the places, and the two halves of the table
 unfoldable pub openTests : Size → ℕ → ℕ → ℕ → Tests
 openTests z places nodes rows =
-    (not (leb 1 (z .rows) && leb (z .rows) 1024), bad-size)
-    ∷ (not (leb 1 (z .width) && leb (z .width) 1024), bad-size)
-    ∷ (not (leb (z .rows) (z .places) && leb (z .places) 4096), bad-size)
+    (not (inMeasure z), bad-size)
     ∷ (not (eqb places (z .places * z .width)), bad-length)
-    ∷ (not (eqb nodes (z .places - z .rows) && eqb rows (z .places - z .rows)), bad-length)
+    ∷ (not (eqb nodes (z .places - z .rows)), bad-length)
+    ∷ (not (eqb rows (z .places - z .rows)), bad-length)
     ∷ []
 
 module _ (z : Size) (tags : List ℕ) (mark : Cell → ℕ) where

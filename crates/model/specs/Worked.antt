@@ -6,7 +6,7 @@ use Prim.Native.Nat.{ℕ, zero, suc}
 use lib.ListN.{replicate}
 use Rattle.measures.specs.declared.Size.{Size}
 use Rattle.model.specs.Call.{Call, snapshot, read, write, delete, count, bad-size, bad-length, Answer, done, row, counts, refused, bad-row, zero-tag, origin-tag, unknown-tag, tag-alive, snapshots-full, places-full, numberOf, usedOf, snapshotsOf, rowOf}
-use Rattle.model.specs.Model.{any, different, alive, snapshotsAlive, shared, placesUsed, refusal, openTests, tests, accepted, adopt, put, without, effect, opened, verdict, answer, after, answers, final}
+use Rattle.model.specs.Model.{any, different, alive, snapshotsAlive, shared, placesUsed, refusal, inMeasure, openTests, tests, accepted, adopt, put, without, effect, opened, verdict, answer, after, answers, final}
 
 -- L = 4, B = 8, P = 6
 abbrev small : Size
@@ -47,5 +47,5 @@ too-many = refl
 opens : map (λ (t : ℕ × (ℕ × ℕ)). refusal (openTests (record { rows = t .0; width = 8; places = 6 }) (t .1 .0) (t .1 .1) (t .1 .1)))
     ((4, (48, 2)) ∷ (0, (48, 6)) ∷ (7, (48, 0)) ∷ (4, (47, 2)) ∷ (4, (48, 1)) ∷ [])
     ≡ none ∷ some bad-size ∷ some bad-size ∷ some bad-length ∷ some bad-length ∷ []
-unfolding refusal openTests
+unfolding refusal openTests inMeasure
 opens = refl

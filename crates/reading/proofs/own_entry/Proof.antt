@@ -56,11 +56,14 @@ loop-again : tie.Need-loop-again Inv-loop μ-loop
 loop-again c =
     let w = c .before in
     let l = w .before .before in
-    let v = l .before .loop .inv in
-    (omega arith, v .1, entry-past _ _ _ _ (l .loop-test .taken) (v .2) (⊎-elim
-    (λ s a. fails (s .2 .result) (s .2 .ensures) (s .3 .left))
-    (λ s a b. s .left (w .wide .ensures ∙ a))
-    (c .if1 .came)))
+    let v = l .before .loop .inv in (
+      omega arith,
+      v .1,
+      entry-past _ _ _ _ (l .loop-test .taken) (v .2) (⊎-elim
+          (λ s a. fails (s .2 .result) (s .2 .ensures) (s .3 .left))
+          (λ s a b. s .left (w .wide .ensures ∙ a))
+          (c .if1 .came)),
+    )
 
 returns-2 : tie.Need-returns-2 Inv-loop μ-loop
 unfolding entry

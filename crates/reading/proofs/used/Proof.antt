@@ -41,11 +41,14 @@ loop-again c =
     let v = l .before .loop .inv in
     let a = l .before .before .args in
     let e = tableOf (a .rows) (a .node .now) (a .row .now) in
-    let i = l .before .loop .i in
-    (omega arith, ⊎-elim (λ w. omega arith) (λ w. omega arith) (c .if1 .came), ⊎-elim
-    (λ w. omega (arith, w .1, v .2, taken-yes e i (w .0 .taken)))
-    (λ w. omega (arith, w .1, v .2, taken-no e i (w .0 .left)))
-    (c .if1 .came))
+    let i = l .before .loop .i in (
+      omega arith,
+      ⊎-elim (λ w. omega arith) (λ w. omega arith) (c .if1 .came),
+      ⊎-elim
+          (λ w. omega (arith, w .1, v .2, taken-yes e i (w .0 .taken)))
+          (λ w. omega (arith, w .1, v .2, taken-no e i (w .0 .left)))
+          (c .if1 .came),
+    )
 
 returns : tie.Need-returns Inv-loop μ-loop
 unfolding used

@@ -1,0 +1,43 @@
+-- Laws of tests in a row: one that holds refuses, one that does not is passed over. Assumes nothing.
+use mathlib.Core.Path.{_≡_, refl, sym, _∙_}
+use mathlib.Core.Bool.{Bool, true, false, not, _&&_}
+use mathlib.Core.List.{[], _∷_}
+use mathlib.Core.Option.{Option, none, some}
+use Prim.Native.Nat.{ℕ, _≤_}
+use lib.Dec.{leb}
+use borrow.Author.Tests.{leb-true, le-leb}
+use Rattle.basics.specs.Decide.{Decides, and-yes, both}
+use Rattle.measures.specs.declared.Size.{Size}
+use Rattle.measures.specs.Measures.{Within}
+use Rattle.model.specs.Call.{Refusal}
+use Rattle.model.specs.Model.{Tests, refusal, inMeasure}
+
+pub refusal-here : {b : Bool} (r : Refusal) (ts : Tests) → b ≡ true → refusal ((b, r) ∷ ts) ≡ some r
+unfolding refusal
+refusal-here r ts e = rw e
+
+pub refusal-next : {b : Bool} (r : Refusal) (ts : Tests) → b ≡ false → refusal ((b, r) ∷ ts) ≡ refusal ts
+unfolding refusal
+refusal-next r ts e = rw e
+
+pub refusal-none : refusal [] ≡ none
+unfolding refusal
+refusal-none = refl
+
+-- the test of the measures answers whether they are within their limits
+pair-yes : (a b c d : ℕ) → (a ≤ b) × (c ≤ d) → (leb a b && leb c d) ≡ true
+pair-yes a b c d h = and-yes (le-leb a b (h .0)) (le-leb c d (h .1))
+
+pair-of : (a b c d : ℕ) → (leb a b && leb c d) ≡ true → (a ≤ b) × (c ≤ d)
+pair-of a b c d e = let (x, y) = both (leb a b) (leb c d) e in (leb-true a b x, leb-true c d y)
+
+pub in-measure : (z : Size) → Within z → inMeasure z ≡ true
+unfolding inMeasure
+in-measure z w = and-yes (and-yes (pair-yes 1 (z .rows) (z .rows) 1024 (w .rows)) (pair-yes 1 (z .width) (z .width) 1024 (w .width))) (pair-yes (z .rows) (z .places) (z .places) 4096 (w .places))
+
+pub measure-in : (z : Size) → inMeasure z ≡ true → Within z
+unfolding inMeasure
+measure-in z e =
+    let (f, p) = both ((leb 1 (z .rows) && leb (z .rows) 1024) && (leb 1 (z .width) && leb (z .width) 1024)) (leb (z .rows) (z .places) && leb (z .places) 4096) e in
+    let (r, w) = both (leb 1 (z .rows) && leb (z .rows) 1024) (leb 1 (z .width) && leb (z .width) 1024) f in
+    record { rows = pair-of 1 (z .rows) (z .rows) 1024 r; width = pair-of 1 (z .width) (z .width) 1024 w; places = pair-of (z .rows) (z .places) (z .places) 4096 p }
