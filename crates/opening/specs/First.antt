@@ -46,9 +46,12 @@ unfolding snapshots isSnapshot
 first-tagged = record {
   above = λ n s. absurd (not-one n (s .0) (s .1 .1));
   different = λ n m s r e. absurd (not-one n (s .0) (s .1 .1));
-  most = omega (arith, count-one (isSnapshot firstTree) 128 (λ a b l m x y.
-      let (z, e) = both (not (eqb a 0)) (eqb (at (firstTree .state) a) 1) x in
-      absurd (not-one a (not-of a 0 z) (eqb-true _ 1 e))));
+  most = omega (
+    arith,
+    count-one (isSnapshot firstTree) 128 (λ a b l m x y.
+        let (z, e) = both (not (eqb a 0)) (eqb (at (firstTree .state) a) 1) x in
+        absurd (not-one a (not-of a 0 z) (eqb-true _ 1 e))),
+  );
 }
 
 pub first-sound : (z : Size) → Within z → (n : ℕ) → n ≡ z .places - z .rows → Sound (recordsOf z firstTree (replicate n 0) (replicate n 0))

@@ -33,3 +33,11 @@ used-read z s p = (to, from)
 
     from : PlaceRead (z .tree) (table z) p → PlaceUsed (table z) p
     from (n, r, a, l, e) = rw (← e) (reads-used (z .tree) (table z) l (place-reads (z .tree) (s .linked) (table z) n r (a .0, omega (arith, a .1))))
+
+-- and so what a node in use reads is below P
+pub place-low : (z : Records) → Sound z → (n r : ℕ) → InUse (z .tree) n → r < z .size .rows → place (z .tree) (table z) n r < z .size .places
+place-low z s n r u l = go (reads-used (z .tree) (table z) l (place-reads (z .tree) (s .linked) (table z) n r u))
+  where
+    go : {p : ℕ} → PlaceUsed (table z) p → p < z .size .places
+    go (inl h) = omega (arith, s .measured .within .places .0)
+    go (inr (i, h, x, e)) = omega (arith, s .measured .nodes, s .measured .within .places .0)

@@ -1,0 +1,83 @@
+-- The ways out of read, one for each test, and that a place read lies inside the places. Assumes nothing.
+use mathlib.Core.Path.{_≡_, refl, sym, _∙_, ap}
+use mathlib.Core.Logic.{_≢_}
+use mathlib.Core.Bool.{Bool, true, false, not}
+use mathlib.Core.List.{List, [], _∷_}
+use mathlib.Core.Option.{Option, none, some}
+use Prim.Native.Nat.{ℕ, _+_, _-_, _*_, _≤_, _<_}
+use native.Mathlib.Nat.{mul-le-mul}
+use native.Mathlib.Omega.{arith}
+use lib.Dec.{eqb, leb}
+use lib.ListN.{length, take}
+use borrow.Author.Tests.{eq-eqb, ne-eqb, le-leb, lt-leb}
+use Rattle.basics.specs.Decide.{not-yes, not-no}
+use Rattle.measures.specs.Measures.{beginsAt, bytesAt}
+use Rattle.records.specs.Records.{Records, table, Alive, InUse, version}
+use Rattle.records.specs.Reading.{place}
+use Rattle.records.specs.Sound.{Sound}
+use Rattle.reading.specs.Used.{place-low}
+use Rattle.model.specs.Call.{Refusal, bad-length, bad-row, unknown-tag, unsound, Answer, row, refused, number}
+use Rattle.model.specs.Model.{Tests, refusal, unless}
+use Rattle.model.specs.Tests.{refusal-here, refusal-next, refusal-none}
+use Rattle.queries.specs.Queries.{Judged, Hands, missing, readTests, rowAt, rowBy, readAnswer, Inside}
+
+-- with the judgement known, one side is left
+pub judged-sound : {z : Records} {Yes No : Type 0} → Sound z → Yes → Judged z Yes No
+judged-sound s y = record { sound = λ x. y; unsound = λ f. absurd (f s) }
+
+pub judged-unsound : {z : Records} {Yes No : Type 0} → (Sound z → ⊥) → No → Judged z Yes No
+judged-unsound f n = record { sound = λ s. absurd (f s); unsound = λ x. n }
+
+module _ (z : Records) (places : List ℕ) (tag r : ℕ) where
+  -- a refused read hands out the empty part
+  hands-refused : (x : Refusal) → refusal (readTests z (length places) tag r) ≡ some x → Hands (readAnswer z places tag r) (number x) (take 0 places)
+  unfolding readAnswer
+  hands-refused x e = record { numbered = rw e; handed = rw e }
+
+  tagTest : Tests
+  tagTest = (missing (version (z .tree) tag), unknown-tag) ∷ []
+
+  rowTest : Tests
+  rowTest = (leb (z .size .rows) r, bad-row) ∷ tagTest
+
+  pub read-length : (length places ≡ z .size .places * z .size .width → ⊥) → Hands (readAnswer z places tag r) 2 (take 0 places)
+  unfolding readTests
+  read-length h = hands-refused bad-length (refusal-here bad-length _ (not-yes (ne-eqb _ _ h)))
+
+  module _ (p : length places ≡ z .size .places * z .size .width) where
+    length-passed : refusal (readTests z (length places) tag r) ≡ refusal rowTest
+    unfolding readTests rowTest tagTest
+    length-passed = refusal-next bad-length _ (not-no (eq-eqb _ _ p))
+
+    pub read-row : (r < z .size .rows → ⊥) → Hands (readAnswer z places tag r) 3 (take 0 places)
+    unfolding rowTest
+    read-row h = hands-refused bad-row (length-passed ∙ refusal-here bad-row tagTest (le-leb _ _ (omega arith)))
+
+    module _ (l : r < z .size .rows) where
+      row-passed : refusal (readTests z (length places) tag r) ≡ refusal tagTest
+      unfolding rowTest
+      row-passed = length-passed ∙ refusal-next bad-row tagTest (lt-leb _ _ l)
+
+      pub read-tag : version (z .tree) tag ≡ none → Hands (readAnswer z places tag r) 21 (take 0 places)
+      unfolding tagTest
+      read-tag v = hands-refused unknown-tag (row-passed ∙ refusal-here unknown-tag [] (rw v))
+
+      pub read-done : (n : ℕ) → version (z .tree) tag ≡ some n → Hands (readAnswer z places tag r) 0 (rowAt z places n r)
+      unfolding tagTest readAnswer
+      read-done n v =
+          let e : refusal (readTests z (length places) tag r) ≡ none = row-passed ∙ refusal-next unknown-tag [] (rw v) ∙ refusal-none in
+          record { numbered = rw e; handed = rw (e, v) }
+
+-- a place that a node in use reads lies inside P × B bytes
+pub read-inside : (z : Records) → Sound z → (places : List ℕ) → length places ≡ z .size .places * z .size .width → (n r : ℕ) → InUse (z .tree) n → r < z .size .rows → Inside places (z .size .width) (place (z .tree) (table z) n r)
+read-inside z s places e n r u l =
+    let w = s .measured .within in
+    let p = place-low z s n r u l in
+    record {
+      narrow = w .width .1;
+      low = omega (arith, p, w .places .1);
+      within = omega (arith, e, stretch (place (z .tree) (table z) n r) (z .size .places) (z .size .width) p);
+    }
+  where
+    stretch : (p q b : ℕ) → p < q → p * b + b ≤ q * b
+    stretch p q b l = ?

@@ -1,0 +1,91 @@
+// The two calls that change nothing: count the places in use and the snapshots alive; read a row.
+ghost use mathlib.Core.Path.{_≡_};
+ghost use Prim.Native.Nat.{ℕ};
+ghost use Rattle.measures.specs.Measures.{bytesAt};
+ghost use Rattle.records.specs.Records.{recordsOf};
+ghost use Rattle.model.specs.Call.{unsound, refused};
+ghost use Rattle.queries.specs.Queries.{Judged, Hands, Gives, Inside, countAnswer, readAnswer};
+use measures::Place;
+use measures::Row;
+use measures::Size;
+use records::Tree;
+use tree::Found;
+
+// An answer, with places in use and snapshots alive.
+pub struct Counts {
+    pub answer: u8,
+    pub used: usize,
+    pub snapshots: usize,
+}
+
+// Refusal: 20.
+pub fn count<'a>(size: Size, tree: Tree, node: &'a [u8], row: &'a [u16]) -> Counts
+    ensures { λ r. ⌜ Judged (recordsOf size tree (now (node .entry)) (now (row .entry)))
+        (Gives (countAnswer (recordsOf size tree (now (node .entry)) (now (row .entry)))) (r .answer) (r .used) (r .snapshots))
+        (Gives (refused unsound) (r .answer) (r .used) (r .snapshots)) ⌝ }
+{
+    if !soundness::sound(size, tree, node, row) {
+        return Counts {
+            answer: 20,
+            used: 0,
+            snapshots: 0,
+        };
+    }
+    let rows = size.rows;
+    let used = reading::used(rows, node, row);
+    let snapshots = tree::snapshots(&tree.state, &tree.tag, &tree.parent);
+    Counts {
+        answer: 0,
+        used,
+        snapshots,
+    }
+}
+
+// The bytes of a place, where they lie.
+fn part<'a>(places: &'a [u8], width: usize, place: Place) -> &'a [u8]
+    requires { ⌜ Inside (now places) width (place .0) ⌝ }
+    ensures { λ s. ⌜ now s ≡ bytesAt width (now (places .entry)) (place .0) ⌝ }
+{
+    let from = measures::offset(width, place);
+    let to = from + width;
+    &places[from..to]
+}
+
+// Refusals: 20, 2, 3, 21. The row is handed out where it lies in the places; a refusal hands out their empty part.
+pub fn read<'a, 'b>(
+    size: Size,
+    tree: Tree,
+    node: &'b [u8],
+    row: &'b [u16],
+    places: &'a [u8],
+    tag: u16,
+    r: Row,
+    answer: &mut u8,
+) -> &'a [u8]
+    ensures { λ s. ⌜ Judged (recordsOf size tree (now (node .entry)) (now (row .entry)))
+        (Hands (readAnswer (recordsOf size tree (now (node .entry)) (now (row .entry))) (now (places .entry)) tag (r .0)) (now (answer .exit)) (now s))
+        (Hands (refused unsound) (now (answer .exit)) (now s)) ⌝ }
+{
+    if !soundness::sound(size, tree, node, row) {
+        *answer = 20;
+        return &places[..0];
+    }
+    if places.len() != size.places * size.width {
+        *answer = 2;
+        return &places[..0];
+    }
+    let rows = size.rows;
+    if !measures::has_row(rows, r) {
+        *answer = 3;
+        return &places[..0];
+    }
+    let found = tree::version(&tree.state, &tree.tag, &tree.parent, tag);
+    let Found::At(n) = found else {
+        *answer = 21;
+        return &places[..0];
+    };
+    *answer = 0;
+    let place = reading::lookup(&tree.state, &tree.tag, &tree.parent, rows, node, row, n, r);
+    let width = size.width;
+    part(places, width, place)
+}

@@ -1,0 +1,29 @@
+-- The seven rules in the three parts that are checked: the measures, the tree, the table. Assumes nothing.
+use mathlib.Core.Path.{_≡_, sym, _∙_}
+use Prim.Native.Nat.{_≤_}
+use Rattle.records.specs.Records.{Records, table}
+use Rattle.records.specs.Sound.{Measured, Linked, Sound}
+use Rattle.tree.specs.Rules.{TreeSound}
+use Rattle.table.specs.Rules.{Fitting, TableSound}
+
+module _ (z : Records) where
+  pub sound-of : Measured z → TreeSound (z .tree) → TableSound (z .tree) (table z) → Sound z
+  sound-of m t e = record {
+    measured = m;
+    states = t .states;
+    linked = t .linked;
+    tagged = t .tagged;
+    branching = t .branching;
+    excepting = e .excepting;
+    allRead = e .allRead;
+  }
+
+  pub tree-of : Sound z → TreeSound (z .tree)
+  tree-of s = record { states = s .states; linked = s .linked; tagged = s .tagged; branching = s .branching }
+
+  pub table-of : Sound z → TableSound (z .tree) (table z)
+  table-of s = record { excepting = s .excepting; allRead = s .allRead }
+
+  -- what the table's check asks
+  pub fitting : Measured z → Linked (z .tree) → Fitting (z .tree) (table z)
+  fitting m l = record { halves = m .rows ∙ sym (m .nodes); few = m .within .rows .1; linked = l }

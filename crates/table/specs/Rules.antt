@@ -1,0 +1,79 @@
+-- The table's rules as the check tests them: marks for what entries name, one entry at a time. Definitions only. Assumes nothing.
+use mathlib.Core.Path.{_≡_}
+use mathlib.Core.Logic.{_≢_}
+use mathlib.Core.Bool.{Bool, true}
+use mathlib.Core.List.{List}
+use Prim.Native.Nat.{ℕ, _+_, _*_, _≤_, _<_}
+use lib.ListN.{length}
+use Rattle.basics.specs.Decide.{Decides, at}
+use Rattle.records.specs.declared.Tree.{Tree}
+use Rattle.records.specs.Records.{Table, InUse, Alive, up}
+use Rattle.records.specs.Reading.{Owns}
+use Rattle.records.specs.Sound.{Linked, Excepting, AllRead}
+
+-- the rules 6 and 7
+pub record TableSound (t : Tree) (e : Table) : Type 0 where
+  pub excepting : Excepting t e
+  pub allRead : AllRead t e
+
+-- what rules 1 and 3 give: the two halves of the table are as long, the rows few, and the tree linked
+pub record Fitting (t : Tree) (e : Table) : Type 0 where
+  pub halves : length (e .row) ≡ length (e .node)
+  pub few : e .rows ≤ 1024
+  pub linked : Linked t
+
+-- where the mark for a node and a row stands
+abbrev pub slot : ℕ → ℕ → ℕ
+slot n r = n * 1024 + r
+
+-- marked are the nodes and rows that entries below i name
+pub record Marked (e : Table) (marks : List ℕ) (i : ℕ) : Type 0 where
+  pub size : length marks ≡ 131072
+  pub named : (n r j : ℕ) → n ≢ 0 → n < 128 → r < 1024 → j < i → Owns e n r j → at marks (slot n r) ≢ 0
+  pub only : (n r : ℕ) → n ≢ 0 → n < 128 → r < 1024 → at marks (slot n r) ≢ 0 → (j : ℕ) × (j < i) × Owns e n r j
+
+-- rule 6 at entry i, against the entries before it
+pub record EntryFits (t : Tree) (e : Table) (i : ℕ) : Type 0 where
+  pub free : at (e .node) i ≡ 0 → at (e .row) i ≡ 0
+  pub named : at (e .node) i ≢ 0 → InUse t (at (e .node) i) × (at (e .row) i < e .rows)
+  pub once : (j : ℕ) → j < i → at (e .node) i ≢ 0 → at (e .node) j ≡ at (e .node) i → at (e .row) j ≡ at (e .row) i → ⊥
+
+-- before entry i is tested, and after it: the verdict, and the marks if it is good
+pub record Entering (e : Table) (marks : List ℕ) (i : ℕ) : Type 0 where
+  pub halves : length (e .row) ≡ length (e .node)
+  pub few : e .rows ≤ 1024
+  pub marked : Marked e marks i
+
+pub record Entered (t : Tree) (e : Table) (i : ℕ) (marks : List ℕ) (b : Bool) : Type 0 where
+  pub fits : Decides b (EntryFits t e i)
+  pub marked : b ≡ true → Marked e marks (i + 1)
+
+-- after all entries
+pub record Entries (t : Tree) (e : Table) (marks : List ℕ) (b : Bool) : Type 0 where
+  pub fits : Decides b (Excepting t e)
+  pub marked : b ≡ true → Marked e marks (length (e .node))
+
+-- going up from n, the first node that is g or marked at row r is g
+pub data Meets (t : Tree) (marks : List ℕ) (r g : ℕ) : ℕ → Type 0 where
+  here : {n : ℕ} → n ≡ g → Meets t marks r g n
+  above : {n : ℕ} → n ≢ g → n ≢ 0 → at marks (slot n r) ≡ 0 → Meets t marks r g (up t n) → Meets t marks r g n
+
+-- and it does so from some living node
+abbrev pub Met : Tree → List ℕ → ℕ → ℕ → Type 0
+Met t marks r g = (n : ℕ) × Alive t n × Meets t marks r g n
+
+-- a node g other than 0 and a row of a linked tree; and a node n in use to start from
+pub record Seeking (t : Tree) (g r : ℕ) : Type 0 where
+  pub linked : Linked t
+  pub below : g ≢ 0
+  pub row : r < 1024
+
+pub record Seeker (t : Tree) (n g r : ℕ) : Type 0 where
+  pub seeking : Seeking t g r
+  pub used : InUse t n
+
+-- before rule 7 is tested: rule 6 holds, and all entries have their marks
+pub record Judging (t : Tree) (e : Table) (marks : List ℕ) : Type 0 where
+  pub fitting : Fitting t e
+  pub excepting : Excepting t e
+  pub marked : Marked e marks (length (e .node))

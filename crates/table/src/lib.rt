@@ -1,0 +1,189 @@
+// The table's rules, document 01's sixth and seventh, in one pass each, with a mark for each node and row that an entry names.
+ghost use mathlib.Core.Path.{_≡_};
+ghost use Prim.Native.Nat.{ℕ, _≤_, _<_};
+ghost use lib.ListN.{length};
+ghost use Rattle.basics.specs.Decide.{Decides};
+ghost use Rattle.records.specs.Records.{treeOf, tableOf};
+ghost use Rattle.records.specs.Sound.{AllRead};
+ghost use Rattle.table.specs.Rules.{Fitting, Entering, Entered, Entries, Seeking, Seeker, Meets, Met, Judging, TableSound};
+
+// A byte as an index, and a 16-bit number.
+fn wide(x: u8) -> usize
+    ensures { λ r. ⌜ r ≡ x ⌝ }
+{
+    x as usize
+}
+
+fn wide16(x: u16) -> usize
+    ensures { λ r. ⌜ r ≡ x ⌝ }
+{
+    x as usize
+}
+
+// Rule 6 at one entry, against those before it. An entry that meets it leaves its mark.
+fn enter<'a>(
+    state: &'a [u8; 128],
+    tag: &'a [u16; 128],
+    parent: &'a [u8; 128],
+    rows: usize,
+    node: &'a [u8],
+    row: &'a [u16],
+    i: usize,
+    marks: &mut [u8; 131072],
+) -> bool
+    requires { ⌜ (i < length (now node)) × Entering (tableOf rows (now node) (now row)) (now marks) i ⌝ }
+    ensures { λ r. ⌜ Entered (treeOf (now (state .entry)) (now (tag .entry)) (now (parent .entry))) (tableOf rows (now (node .entry)) (now (row .entry))) i (now (marks .exit)) r ⌝ }
+{
+    let n = wide(node[i]);
+    let r = wide16(row[i]);
+    if n == 0 {
+        if r == 0 {
+            return true;
+        }
+        return false;
+    }
+    if n >= 128 {
+        return false;
+    }
+    if state[n] == 0 {
+        return false;
+    }
+    if r >= rows {
+        return false;
+    }
+    let k = n * 1024 + r;
+    if marks[k] != 0 {
+        return false;
+    }
+    marks[k] = 1;
+    true
+}
+
+// Rule 6.
+fn entries<'a>(
+    state: &'a [u8; 128],
+    tag: &'a [u16; 128],
+    parent: &'a [u8; 128],
+    rows: usize,
+    node: &'a [u8],
+    row: &'a [u16],
+    marks: &mut [u8; 131072],
+) -> bool
+    requires { ⌜ Entering (tableOf rows (now node) (now row)) (now marks) 0 ⌝ }
+    ensures { λ r. ⌜ Entries (treeOf (now (state .entry)) (now (tag .entry)) (now (parent .entry))) (tableOf rows (now (node .entry)) (now (row .entry))) (now (marks .exit)) r ⌝ }
+{
+    let mut i: usize = 0;
+    while i < node.len() {
+        if !enter(state, tag, parent, rows, node, row, i, marks) {
+            return false;
+        }
+        i += 1;
+    }
+    true
+}
+
+// Is g the first node, from n up, that has its own row r? It has one, and so it is marked.
+fn meets<'a>(
+    state: &'a [u8; 128],
+    tag: &'a [u16; 128],
+    parent: &'a [u8; 128],
+    marks: &'a [u8; 131072],
+    n: usize,
+    g: usize,
+    r: usize,
+) -> bool
+    requires { ⌜ Seeker (treeOf (now state) (now tag) (now parent)) n g r ⌝ }
+    ensures { λ b. ⌜ Decides b (Meets (treeOf (now (state .entry)) (now (tag .entry)) (now (parent .entry))) (now (marks .entry)) r g n) ⌝ }
+{
+    let mut m = n;
+    let mut k: usize = 0;
+    while k < 128 {
+        if m == g {
+            return true;
+        }
+        if m == 0 {
+            return false;
+        }
+        if marks[m * 1024 + r] != 0 {
+            return false;
+        }
+        m = wide(parent[m]);
+        k += 1;
+    }
+    false
+}
+
+// Does some living version read node g's own row r?
+fn met<'a>(
+    state: &'a [u8; 128],
+    tag: &'a [u16; 128],
+    parent: &'a [u8; 128],
+    marks: &'a [u8; 131072],
+    g: usize,
+    r: usize,
+) -> bool
+    requires { ⌜ Seeking (treeOf (now state) (now tag) (now parent)) g r ⌝ }
+    ensures { λ b. ⌜ Decides b (Met (treeOf (now (state .entry)) (now (tag .entry)) (now (parent .entry))) (now (marks .entry)) r g) ⌝ }
+{
+    let mut n: usize = 0;
+    while n < 128 {
+        if state[n] == 1 {
+            if meets(state, tag, parent, marks, n, g, r) {
+                return true;
+            }
+        }
+        n += 1;
+    }
+    false
+}
+
+// Rule 7, of a table that meets rule 6. A living node reads its own rows; only a ghost's are looked for.
+fn all_read<'a>(
+    state: &'a [u8; 128],
+    tag: &'a [u16; 128],
+    parent: &'a [u8; 128],
+    rows: usize,
+    node: &'a [u8],
+    row: &'a [u16],
+    marks: &'a [u8; 131072],
+) -> bool
+    requires { ⌜ Judging (treeOf (now state) (now tag) (now parent)) (tableOf rows (now node) (now row)) (now marks) ⌝ }
+    ensures { λ b. ⌜ Decides b (AllRead (treeOf (now (state .entry)) (now (tag .entry)) (now (parent .entry))) (tableOf rows (now (node .entry)) (now (row .entry)))) ⌝ }
+{
+    let mut i: usize = 0;
+    while i < node.len() {
+        let g = wide(node[i]);
+        if g != 0 {
+            if state[g] != 1 {
+                let r = wide16(row[i]);
+                if !met(state, tag, parent, marks, g, r) {
+                    return false;
+                }
+            }
+        }
+        i += 1;
+    }
+    true
+}
+
+// Rules 6 and 7, of a tree that meets rule 3.
+pub fn sound<'a>(
+    state: &'a [u8; 128],
+    tag: &'a [u16; 128],
+    parent: &'a [u8; 128],
+    rows: usize,
+    node: &'a [u8],
+    row: &'a [u16],
+) -> bool
+    requires { ⌜ Fitting (treeOf (now state) (now tag) (now parent)) (tableOf rows (now node) (now row)) ⌝ }
+    ensures { λ b. ⌜ Decides b (TableSound (treeOf (now (state .entry)) (now (tag .entry)) (now (parent .entry))) (tableOf rows (now (node .entry)) (now (row .entry)))) ⌝ }
+{
+    let mut marks = [0u8; 131072];
+    if !entries(state, tag, parent, rows, node, row, &mut marks) {
+        return false;
+    }
+    if !all_read(state, tag, parent, rows, node, row, &marks) {
+        return false;
+    }
+    true
+}
