@@ -4,17 +4,20 @@ use mathlib.Core.Logic.{_≢_}
 use mathlib.Core.Bool.{Bool, true, false, not}
 use mathlib.Core.List.{List, [], _∷_}
 use mathlib.Core.Option.{Option, none, some}
-use Prim.Native.Nat.{ℕ, _+_, _-_, _*_, _≤_, _<_}
-use native.Mathlib.Nat.{mul-le-mul}
+use Prim.Native.Nat.{ℕ, suc, _+_, _*_, _≤_, _<_}
+use native.Mathlib.Nat.{mul-le-mul-right, suc-mul}
 use native.Mathlib.Omega.{arith}
 use lib.Dec.{eqb, leb}
 use lib.ListN.{length, take}
 use borrow.Author.Tests.{eq-eqb, ne-eqb, le-leb, lt-leb}
 use Rattle.basics.specs.Decide.{not-yes, not-no}
 use Rattle.measures.specs.Measures.{beginsAt, bytesAt}
+use Rattle.records.specs.declared.Tree.{Tree}
 use Rattle.records.specs.Records.{Records, table, Alive, InUse, version}
 use Rattle.records.specs.Reading.{place}
 use Rattle.records.specs.Sound.{Sound}
+use Rattle.tree.specs.Nodes.{version-alive}
+use Rattle.reading.specs.Lookup.{Looking}
 use Rattle.reading.specs.Used.{place-low}
 use Rattle.model.specs.Call.{Refusal, bad-length, bad-row, unknown-tag, unsound, Answer, row, refused, number}
 use Rattle.model.specs.Model.{Tests, refusal, unless}
@@ -51,7 +54,7 @@ module _ (z : Records) (places : List ℕ) (tag r : ℕ) where
 
     pub read-row : (r < z .size .rows → ⊥) → Hands (readAnswer z places tag r) 3 (take 0 places)
     unfolding rowTest
-    read-row h = hands-refused bad-row (length-passed ∙ refusal-here bad-row tagTest (le-leb _ _ (omega arith)))
+    read-row h = hands-refused bad-row (length-passed ∙ refusal-here bad-row tagTest (le-leb (z .size .rows) r (omega arith)))
 
     module _ (l : r < z .size .rows) where
       row-passed : refusal (readTests z (length places) tag r) ≡ refusal tagTest
@@ -68,6 +71,20 @@ module _ (z : Records) (places : List ℕ) (tag r : ℕ) where
           let e : refusal (readTests z (length places) tag r) ≡ none = row-passed ∙ refusal-next unknown-tag [] (rw v) ∙ refusal-none in
           record { numbered = rw e; handed = rw (e, v) }
 
+-- the node of a living version is in use, and the lookup may start from it
+pub version-used : (t : Tree) (tag n : ℕ) → version t tag ≡ some n → InUse t n
+version-used t tag n v = let (a, g) = version-alive t tag n v in (a .0, omega (arith, a .1))
+
+pub few-places : (z : Records) → Sound z → z .size .rows + length (z .node) ≤ 4096
+few-places z s = let m = s .measured in omega (arith, m .nodes, m .within .places .0, m .within .places .1)
+
+pub looking : (z : Records) → Sound z → (tag n : ℕ) → version (z .tree) tag ≡ some n → Looking (z .tree) (table z) n
+looking z s tag n v = record {
+  climbs = record { parents = λ k l e u. s .linked .parent k e u; used = version-used (z .tree) tag n v };
+  halves = s .measured .rows ∙ sym (s .measured .nodes);
+  few = few-places z s;
+}
+
 -- a place that a node in use reads lies inside P × B bytes
 pub read-inside : (z : Records) → Sound z → (places : List ℕ) → length places ≡ z .size .places * z .size .width → (n r : ℕ) → InUse (z .tree) n → r < z .size .rows → Inside places (z .size .width) (place (z .tree) (table z) n r)
 read-inside z s places e n r u l =
@@ -80,4 +97,4 @@ read-inside z s places e n r u l =
     }
   where
     stretch : (p q b : ℕ) → p < q → p * b + b ≤ q * b
-    stretch p q b l = ?
+    stretch p q b l = omega (arith, mul-le-mul-right b (let h : suc p ≤ q = l in h), suc-mul p b)

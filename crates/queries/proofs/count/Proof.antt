@@ -1,0 +1,32 @@
+-- `queries::count` meets its contract. Assumes nothing.
+use borrow.Author.Needs.{needs}
+use mathlib.Core.Path.{refl}
+use Rattle.queries.specs.Laws.{judged-sound, judged-unsound, few-places}
+use Rattle.records.specs.Sound.{Sound}
+use Rattle.records.specs.Records.{recordsOf}
+use Rattle.basics.specs.Decide.{passed, failed}
+use Rattle.queries.proofs.count.Statement.{statement}
+use Rattle.queries.proofs.count.Tie as tie
+
+judged : (c : tie.Else1) → (let a = c .before .before .before .before .args in Sound (recordsOf (a .size) (a .t2) (a .node .now) (a .row .now)))
+judged c = passed (c .before .sound .result) (c .before .sound .ensures) (c .if1 .left)
+
+sound-requires : tie.Need-sound-requires
+sound-requires c κs = search needs
+
+returns : tie.Need-returns
+returns c = judged-unsound (failed (c .before .sound .result) (c .before .sound .ensures) (c .if1 .taken)) (record { numbered = refl; counted = refl; living = refl })
+
+used-requires : tie.Need-used-requires
+used-requires c κs = few-places _ (judged c)
+
+snapshots-requires : tie.Need-snapshots-requires
+snapshots-requires c κs = search needs
+
+returns-2 : tie.Need-returns-2
+returns-2 c =
+    let u = c .before .before .before .before .before in
+    judged-sound (judged (u .before)) (record { numbered = refl; counted = u .used .ensures; living = c .snapshots .ensures })
+
+pub count-spec : {M : Type 1} → statement M
+count-spec = tie.close (tie.spec sound-requires returns used-requires snapshots-requires returns-2)

@@ -1,0 +1,126 @@
+-- `queries::read` meets its contract: each return cites the law of its test. Assumes nothing.
+use borrow.Author.Needs.{needs}
+use mathlib.Core.Path.{_≡_, refl, sym, _∙_}
+use mathlib.Core.Option.{some}
+use Prim.Native.Nat.{_<_}
+use native.Mathlib.Nat.{mul-le-mul}
+use native.Mathlib.Omega.{arith}
+use Rattle.queries.specs.Laws.{judged-sound, judged-unsound, read-length, read-row, read-tag, read-done, version-used, looking, read-inside}
+use Rattle.queries.specs.Queries.{rowAt}
+use Rattle.tree.specs.Rules.{found-at, found-missing}
+use Rattle.records.specs.Sound.{Sound}
+use Rattle.records.specs.Records.{recordsOf, version}
+use Rattle.basics.specs.Decide.{passed, failed}
+use Rattle.queries.proofs.read.Statement.{statement}
+use Rattle.queries.proofs.read.Tie as tie
+
+judged : (c : tie.Else1) → (let a = c .before .before .before .before .before .args in Sound (recordsOf (a .size) (a .t2) (a .node .now) (a .row .now)))
+judged c = passed (c .before .sound .result) (c .before .sound .ensures) (c .if1 .left)
+
+-- where a version was found: the way there, the version, and that there is such a row
+abbrev early : tie.After-known-told → tie.Else2
+early c = c .before .before .before .before .before .before .before .before .before .before
+
+known : (c : tie.After-known-told) → (let a = early c .before .before .before .before .before .before .before .args in version (a .t2) (a .tag) ≡ some (c .before .found .given .0 .0))
+known c =
+    let a = early c .before .before .before .before .before .before .before .args in
+    found-at (version (a .t2) (a .tag)) _ (sym (c .before .found .given .1) ∙ c .before .before .before .version .ensures)
+
+low : (c : tie.After-known-told) → (let a = early c .before .before .before .before .before .before .before .args in a .r .0 < a .size .rows)
+low c =
+    let h = c .before .before .before .before .before .before .before .before in
+    passed (h .before .has-row .result) (h .before .has-row .ensures) (h .if3 .left)
+
+sound-requires : tie.Need-sound-requires
+sound-requires c κs = search needs
+
+slice-aggregate-result : tie.Need-slice-aggregate-result
+slice-aggregate-result c = search needs
+
+returns : tie.Need-returns
+returns c = judged-unsound (failed (c .before .before .sound .result) (c .before .before .sound .ensures) (c .before .if1 .taken)) (record { numbered = refl; handed = refl })
+
+mul-if2 : tie.Need-mul-if2
+mul-if2 c =
+    let w = judged (c .before) .measured .within in
+    omega (arith, mul-le-mul (w .places .1) (w .width .1))
+
+slice-aggregate-result-2 : tie.Need-slice-aggregate-result-2
+slice-aggregate-result-2 c = search needs
+
+returns-2 : tie.Need-returns-2
+returns-2 c = judged-sound (judged (c .before .before .before)) (read-length _ _ _ _ (c .before .if2 .taken))
+
+has-row-requires : tie.Need-has-row-requires
+has-row-requires c κs = search needs
+
+slice-aggregate-result-3 : tie.Need-slice-aggregate-result-3
+slice-aggregate-result-3 c = search needs
+
+returns-3 : tie.Need-returns-3
+returns-3 c =
+    let h = c .before .before in
+    let p = h .before in
+    judged-sound (judged (p .before .before)) (read-row _ _ _ _ (p .if2 .left) (failed (h .has-row .result) (h .has-row .ensures) (c .before .if3 .taken)))
+
+version-requires : tie.Need-version-requires
+version-requires c κs = search needs
+
+enum-known-found : tie.Need-enum-known-found
+enum-known-found c = search needs
+
+enum-told : tie.Need-enum-told
+enum-told c = search needs
+
+slice-aggregate-result-4 : tie.Need-slice-aggregate-result-4
+slice-aggregate-result-4 c = search needs
+
+returns-4 : tie.Need-returns-4
+returns-4 c =
+    let q = c .before in
+    let v = q .before .before in
+    let h = v .before .before .before .before .before in
+    let p = h .before .before in
+    let s = p .before .before .before .before .before .before .before in
+    judged-sound (judged (p .before .before)) (read-tag _ _ _ _ (p .if2 .left) (passed (h .before .has-row .result) (h .before .has-row .ensures) (h .if3 .left)) (found-missing (version (s .args .t2) (s .args .tag)) (sym (q .enum-told .given .1) ∙ v .version .ensures)))
+
+lookup-requires : tie.Need-lookup-requires
+lookup-requires c κs =
+    let k = c .before .before .before .before in
+    looking _ (judged (early k .before .before)) _ _ (known k)
+
+part-requires : tie.Need-part-requires
+part-requires c κs =
+    let k = c .before .before .before .before .before in
+    let p = early k in
+    rw (c .lookup .ensures) (read-inside _ (judged (p .before .before)) _ (p .if2 .left) _ _ (version-used _ _ _ (known k)) (low k))
+
+returns-5 : tie.Need-returns-5
+unfolding rowAt
+returns-5 c =
+    let l = c .before in
+    let k = l .before .before .before .before .before in
+    let p = early k in
+    judged-sound (judged (p .before .before)) (rw (c .part .ensures, l .lookup .ensures) (read-done _ _ _ _ (p .if2 .left) (low k) _ (known k)))
+
+pub read-spec : {M : Type 1} → statement M
+read-spec =
+    tie.close
+    (tie.spec
+    sound-requires
+    slice-aggregate-result
+    returns
+    mul-if2
+    slice-aggregate-result-2
+    returns-2
+    has-row-requires
+    slice-aggregate-result-3
+    returns-3
+    version-requires
+    enum-known-found
+    enum-told
+    slice-aggregate-result-4
+    returns-4
+    lookup-requires
+    part-requires
+    returns-5)
