@@ -34,6 +34,12 @@ refusals : answers tiny (opened tiny)
 unfolding any different alive snapshotsAlive shared placesUsed refusal tests accepted adopt put without effect opened verdict answer after answers
 refusals = refl
 
+-- a snapshot has its source's bytes, and keeps them
+copies : answers tiny (opened tiny) (write 0 0 (9 ∷ []) ∷ snapshot 0 7 ∷ write 0 0 (8 ∷ []) ∷ snapshot 7 8 ∷ delete 7 ∷ read 8 0 ∷ read 0 0 ∷ count ∷ [])
+    ≡ done ∷ done ∷ done ∷ done ∷ done ∷ row (9 ∷ []) ∷ row (8 ∷ []) ∷ counts 3 1 ∷ []
+unfolding any different alive snapshotsAlive shared placesUsed refusal tests accepted adopt put without effect opened verdict answer after answers
+copies = refl
+
 snapshotsOfOrigin : ℕ → List Call
 snapshotsOfOrigin zero = []
 snapshotsOfOrigin (suc n) = snapshot 0 (suc n) ∷ snapshotsOfOrigin n

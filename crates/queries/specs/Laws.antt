@@ -8,7 +8,7 @@ use Prim.Native.Nat.{ℕ, suc, _+_, _*_, _≤_, _<_}
 use native.Mathlib.Nat.{mul-le-mul-right, suc-mul}
 use native.Mathlib.Omega.{arith}
 use lib.Dec.{eqb, leb}
-use lib.ListN.{length, take}
+use lib.ListN.{length}
 use borrow.Author.Tests.{eq-eqb, ne-eqb, le-leb, lt-leb}
 use Rattle.basics.specs.Decide.{not-yes, not-no}
 use Rattle.measures.specs.Measures.{beginsAt, bytesAt}
@@ -33,7 +33,7 @@ judged-unsound f n = record { sound = λ s. absurd (f s); unsound = λ x. n }
 
 module _ (z : Records) (places : List ℕ) (tag r : ℕ) where
   -- a refused read hands out the empty part
-  hands-refused : (x : Refusal) → refusal (readTests z (length places) tag r) ≡ some x → Hands (readAnswer z places tag r) (number x) (take 0 places)
+  hands-refused : (x : Refusal) → refusal (readTests z (length places) tag r) ≡ some x → Hands (readAnswer z places tag r) (number x) []
   unfolding readAnswer
   hands-refused x e = record { numbered = rw e; handed = rw e }
 
@@ -43,7 +43,7 @@ module _ (z : Records) (places : List ℕ) (tag r : ℕ) where
   rowTest : Tests
   rowTest = (leb (z .size .rows) r, bad-row) ∷ tagTest
 
-  pub read-length : (length places ≡ z .size .places * z .size .width → ⊥) → Hands (readAnswer z places tag r) 2 (take 0 places)
+  pub read-length : (length places ≡ z .size .places * z .size .width → ⊥) → Hands (readAnswer z places tag r) 2 []
   unfolding readTests
   read-length h = hands-refused bad-length (refusal-here bad-length _ (not-yes (ne-eqb _ _ h)))
 
@@ -52,7 +52,7 @@ module _ (z : Records) (places : List ℕ) (tag r : ℕ) where
     unfolding readTests rowTest tagTest
     length-passed = refusal-next bad-length _ (not-no (eq-eqb _ _ p))
 
-    pub read-row : (r < z .size .rows → ⊥) → Hands (readAnswer z places tag r) 3 (take 0 places)
+    pub read-row : (r < z .size .rows → ⊥) → Hands (readAnswer z places tag r) 3 []
     unfolding rowTest
     read-row h = hands-refused bad-row (length-passed ∙ refusal-here bad-row tagTest (le-leb (z .size .rows) r (omega arith)))
 
@@ -61,7 +61,7 @@ module _ (z : Records) (places : List ℕ) (tag r : ℕ) where
       unfolding rowTest
       row-passed = length-passed ∙ refusal-next bad-row tagTest (lt-leb _ _ l)
 
-      pub read-tag : version (z .tree) tag ≡ none → Hands (readAnswer z places tag r) 21 (take 0 places)
+      pub read-tag : version (z .tree) tag ≡ none → Hands (readAnswer z places tag r) 21 []
       unfolding tagTest
       read-tag v = hands-refused unknown-tag (row-passed ∙ refusal-here unknown-tag [] (rw v))
 

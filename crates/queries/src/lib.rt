@@ -1,6 +1,6 @@
 // The two calls that change nothing: count the places in use and the snapshots alive; read a row.
 ghost use mathlib.Core.Path.{_≡_};
-ghost use Prim.Native.Nat.{ℕ};
+ghost use mathlib.Core.List.{[]};
 ghost use Rattle.measures.specs.Measures.{bytesAt};
 ghost use Rattle.records.specs.Records.{recordsOf};
 ghost use Rattle.model.specs.Call.{unsound, refused};
@@ -41,6 +41,13 @@ pub fn count<'a>(size: Size, tree: Tree, node: &'a [u8], row: &'a [u16]) -> Coun
     }
 }
 
+// The empty part of the places.
+fn nothing<'a>(places: &'a [u8]) -> &'a [u8]
+    ensures { λ s. ⌜ now s ≡ [] ⌝ }
+{
+    &places[..0]
+}
+
 // The bytes of a place, where they lie.
 fn part<'a>(places: &'a [u8], width: usize, place: Place) -> &'a [u8]
     requires { ⌜ Inside (now places) width (place .0) ⌝ }
@@ -68,21 +75,21 @@ pub fn read<'a, 'b>(
 {
     if !soundness::sound(size, tree, node, row) {
         *answer = 20;
-        return &places[..0];
+        return nothing(places);
     }
     if places.len() != size.places * size.width {
         *answer = 2;
-        return &places[..0];
+        return nothing(places);
     }
     let rows = size.rows;
     if !measures::has_row(rows, r) {
         *answer = 3;
-        return &places[..0];
+        return nothing(places);
     }
     let found = tree::version(&tree.state, &tree.tag, &tree.parent, tag);
     let Found::At(n) = found else {
         *answer = 21;
-        return &places[..0];
+        return nothing(places);
     };
     *answer = 0;
     let place = reading::lookup(&tree.state, &tree.tag, &tree.parent, rows, node, row, n, r);

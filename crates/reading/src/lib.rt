@@ -74,11 +74,12 @@ pub fn lookup<'a>(
         if m == 0 {
             return measures::home(r);
         }
+        let above = wide(parent[m]);
         let found = own_entry(rows, node, row, m, r);
         if let Found::At(i) = found {
             return held(rows, i);
         }
-        m = wide(parent[m]);
+        m = above;
         k += 1;
     }
     measures::home(r)

@@ -5,12 +5,12 @@ use mathlib.Core.Option.{some}
 use Prim.Native.Nat.{_<_}
 use native.Mathlib.Nat.{mul-le-mul}
 use native.Mathlib.Omega.{arith}
-use Rattle.queries.specs.Laws.{judged-sound, judged-unsound, read-length, read-row, read-tag, read-done, version-used, looking, read-inside}
-use Rattle.queries.specs.Queries.{rowAt}
-use Rattle.tree.specs.Rules.{found-at, found-missing}
-use Rattle.records.specs.Sound.{Sound}
-use Rattle.records.specs.Records.{recordsOf, version}
 use Rattle.basics.specs.Decide.{passed, failed}
+use Rattle.records.specs.Records.{recordsOf, version}
+use Rattle.records.specs.Sound.{Sound}
+use Rattle.tree.specs.Rules.{found-at, found-missing}
+use Rattle.queries.specs.Queries.{rowAt}
+use Rattle.queries.specs.Laws.{judged-sound, judged-unsound, read-length, read-row, read-tag, read-done, version-used, looking, read-inside}
 use Rattle.queries.proofs.read.Statement.{statement}
 use Rattle.queries.proofs.read.Tie as tie
 
@@ -34,34 +34,34 @@ low c =
 sound-requires : tie.Need-sound-requires
 sound-requires c κs = search needs
 
-slice-aggregate-result : tie.Need-slice-aggregate-result
-slice-aggregate-result c = search needs
+nothing-requires : tie.Need-nothing-requires
+nothing-requires c κs = search needs
 
 returns : tie.Need-returns
-returns c = judged-unsound (failed (c .before .before .sound .result) (c .before .before .sound .ensures) (c .before .if1 .taken)) (record { numbered = refl; handed = refl })
+returns c = judged-unsound (failed (c .before .before .sound .result) (c .before .before .sound .ensures) (c .before .if1 .taken)) (record { numbered = refl; handed = c .nothing .ensures })
 
 mul-if2 : tie.Need-mul-if2
 mul-if2 c =
     let w = judged (c .before) .measured .within in
     omega (arith, mul-le-mul (w .places .1) (w .width .1))
 
-slice-aggregate-result-2 : tie.Need-slice-aggregate-result-2
-slice-aggregate-result-2 c = search needs
+nothing-requires-2 : tie.Need-nothing-requires-2
+nothing-requires-2 c κs = search needs
 
 returns-2 : tie.Need-returns-2
-returns-2 c = judged-sound (judged (c .before .before .before)) (read-length _ _ _ _ (c .before .if2 .taken))
+returns-2 c = judged-sound (judged (c .before .before .before)) (rw (c .nothing2 .ensures) (read-length _ _ _ _ (c .before .if2 .taken)))
 
 has-row-requires : tie.Need-has-row-requires
 has-row-requires c κs = search needs
 
-slice-aggregate-result-3 : tie.Need-slice-aggregate-result-3
-slice-aggregate-result-3 c = search needs
+nothing-requires-3 : tie.Need-nothing-requires-3
+nothing-requires-3 c κs = search needs
 
 returns-3 : tie.Need-returns-3
 returns-3 c =
     let h = c .before .before in
     let p = h .before in
-    judged-sound (judged (p .before .before)) (read-row _ _ _ _ (p .if2 .left) (failed (h .has-row .result) (h .has-row .ensures) (c .before .if3 .taken)))
+    judged-sound (judged (p .before .before)) (rw (c .nothing3 .ensures) (read-row _ _ _ _ (p .if2 .left) (failed (h .has-row .result) (h .has-row .ensures) (c .before .if3 .taken))))
 
 version-requires : tie.Need-version-requires
 version-requires c κs = search needs
@@ -72,8 +72,8 @@ enum-known-found c = search needs
 enum-told : tie.Need-enum-told
 enum-told c = search needs
 
-slice-aggregate-result-4 : tie.Need-slice-aggregate-result-4
-slice-aggregate-result-4 c = search needs
+nothing-requires-4 : tie.Need-nothing-requires-4
+nothing-requires-4 c κs = search needs
 
 returns-4 : tie.Need-returns-4
 returns-4 c =
@@ -82,7 +82,7 @@ returns-4 c =
     let h = v .before .before .before .before .before in
     let p = h .before .before in
     let s = p .before .before .before .before .before .before .before in
-    judged-sound (judged (p .before .before)) (read-tag _ _ _ _ (p .if2 .left) (passed (h .before .has-row .result) (h .before .has-row .ensures) (h .if3 .left)) (found-missing (version (s .args .t2) (s .args .tag)) (sym (q .enum-told .given .1) ∙ v .version .ensures)))
+    judged-sound (judged (p .before .before)) (rw (c .nothing4 .ensures) (read-tag _ _ _ _ (p .if2 .left) (passed (h .before .has-row .result) (h .before .has-row .ensures) (h .if3 .left)) (found-missing (version (s .args .t2) (s .args .tag)) (sym (q .enum-told .given .1) ∙ v .version .ensures))))
 
 lookup-requires : tie.Need-lookup-requires
 lookup-requires c κs =
@@ -108,18 +108,18 @@ read-spec =
     tie.close
     (tie.spec
     sound-requires
-    slice-aggregate-result
+    nothing-requires
     returns
     mul-if2
-    slice-aggregate-result-2
+    nothing-requires-2
     returns-2
     has-row-requires
-    slice-aggregate-result-3
+    nothing-requires-3
     returns-3
     version-requires
     enum-known-found
     enum-told
-    slice-aggregate-result-4
+    nothing-requires-4
     returns-4
     lookup-requires
     part-requires

@@ -1,13 +1,13 @@
 -- `reading::lookup` meets its contract: what the node reads is what the node above it reads. Assumes nothing.
 use borrow.Author.Needs.{needs}
-use Prim.Native.Nat.{ℕ, _≤_, _<_, _-_}
-use mathlib.Core.Path.{_≡_, sym, _∙_, ap}
+use Prim.Native.Nat.{_-_}
+use mathlib.Core.Path.{_≡_, sym, _∙_}
 use native.Mathlib.Omega.{arith}
 use Rattle.reading.specs.Lookup.{Rising, rise-start, rise-root, rise-own, rise-up, rise-over}
 use Rattle.reading.specs.Reads.{entry-some}
 use Rattle.tree.specs.Rules.{found-at, found-missing}
 use Rattle.records.specs.Reading.{entry}
-use Rattle.records.specs.Records.{treeOf, tableOf, up}
+use Rattle.records.specs.Records.{treeOf, tableOf}
 use Rattle.reading.proofs.lookup.Statement.{statement}
 use Rattle.reading.proofs.lookup.Tie as tie
 
@@ -28,8 +28,14 @@ returns c =
     let i = c .before in
     c .home .ensures ∙ sym (rise-root _ _ _ _ _ _ (i .before .before .loop .inv) (i .if1 .taken))
 
+element-copy-out-wide : tie.Need-element-copy-out-wide Inv-loop μ-loop
+element-copy-out-wide c = search needs
+
+wide-requires : tie.Need-wide-requires Inv-loop μ-loop
+wide-requires c κs = search needs
+
 own-entry-requires : tie.Need-own-entry-requires Inv-loop μ-loop
-own-entry-requires c κs = c .before .before .before .before .before .pre .halves
+own-entry-requires c κs = c .before .before .before .before .before .before .before .pre .halves
 
 enum-known-found : tie.Need-enum-known-found Inv-loop μ-loop
 enum-known-found c = search needs
@@ -38,9 +44,10 @@ held-requires : tie.Need-held-requires Inv-loop μ-loop
 held-requires c κs =
     let f = c .before in
     let o = f .before .before in
-    let s = o .before .before .before .before .before .before in
+    let l = o .before .before .before .before in
+    let s = l .before .before .before .before in
     let e = tableOf (s .args .rows) (s .args .node .now) (s .args .row .now) in
-    let m = o .before .before .before .loop .m in
+    let m = l .before .loop .m in
     let h = found-at (entry e m (s .args .r .0)) (f .found .given .0 .0) (sym (f .found .given .1) ∙ o .own-entry .ensures) in
     omega (arith, entry-some e m (s .args .r .0) (f .found .given .0 .0) h .0, s .pre .few)
 
@@ -48,20 +55,15 @@ returns-2 : tie.Need-returns-2 Inv-loop μ-loop
 returns-2 c =
     let f = c .before .before in
     let o = f .before .before in
-    let l = o .before .before in
+    let z = o .before .before .before in
+    let l = z .before in
     let s = l .before .before .before .before in
     let e = tableOf (s .args .rows) (s .args .node .now) (s .args .row .now) in
     let h = found-at (entry e (l .before .loop .m) (s .args .r .0)) (f .found .given .0 .0) (sym (f .found .given .1) ∙ o .own-entry .ensures) in
-    c .held .ensures ∙ sym (rise-own _ _ _ _ _ _ _ (l .loop-test .taken) (l .before .loop .inv) (o .before .if1 .left) h)
+    c .held .ensures ∙ sym (rise-own _ _ _ _ _ _ _ (l .loop-test .taken) (l .before .loop .inv) (z .if1 .left) h)
 
 enum-told : tie.Need-enum-told Inv-loop μ-loop
 enum-told c = search needs
-
-element-copy-out-wide : tie.Need-element-copy-out-wide Inv-loop μ-loop
-element-copy-out-wide c = search needs
-
-wide-requires : tie.Need-wide-requires Inv-loop μ-loop
-wide-requires c κs = search needs
 
 add-k : tie.Need-add-k Inv-loop μ-loop
 add-k c = search needs
@@ -71,15 +73,16 @@ loop-less c = search needs
 
 loop-again : tie.Need-loop-again Inv-loop μ-loop
 loop-again c =
-    let q = c .before .before in
-    let o = q .before .before in
-    let l = o .before .before in
+    let o = c .before .before in
+    let w = o .before in
+    let z = w .before .before in
+    let l = z .before in
     let s = l .before .before .before .before in
     let e = tableOf (s .args .rows) (s .args .node .now) (s .args .row .now) in
     let m = l .before .loop .m in
     let v = l .before .loop .inv in
-    let h = found-missing (entry e m (s .args .r .0)) (sym (q .enum-told .given .1) ∙ o .own-entry .ensures) in
-    rw (c .wide .ensures) (rise-up _ _ _ _ _ _ (l .loop-test .taken) v (o .before .if1 .left) h (s .pre .climbs .parents m (v .used .0) (o .before .if1 .left) (v .used)))
+    let h = found-missing (entry e m (s .args .r .0)) (sym (c .enum-told .given .1) ∙ o .own-entry .ensures) in
+    rw (w .wide .ensures) (rise-up _ _ _ _ _ _ (l .loop-test .taken) v (z .if1 .left) h (s .pre .climbs .parents m (v .used .0) (z .if1 .left) (v .used)))
 
 home-requires-2 : tie.Need-home-requires-2 Inv-loop μ-loop
 home-requires-2 c κs = search needs
@@ -98,13 +101,13 @@ lookup-spec =
     loop-holds
     home-requires
     returns
+    element-copy-out-wide
+    wide-requires
     own-entry-requires
     enum-known-found
     held-requires
     returns-2
     enum-told
-    element-copy-out-wide
-    wide-requires
     add-k
     loop-less
     loop-again
