@@ -14,7 +14,7 @@ use Rattle.records.specs.Records.{Table, InUse, Alive, up}
 use Rattle.records.specs.Reading.{Owns, Reads, origin, own}
 use Rattle.records.specs.Sound.{Linked, Excepting}
 use Rattle.tree.specs.Loops.{Climbing, climb-over, linked-reaches}
-use Rattle.table.specs.Rules.{slot, Marked, EntryFits, Entering, Entered, Meets, here, above, Met, Judging}
+use Rattle.table.specs.Rules.{ReadAt, slot, Marked, EntryFits, Entering, Entered, Meets, here, above, Met, Judging}
 
 -- Marks
 
@@ -152,10 +152,6 @@ module _ (t : Tree) (e : Table) where
       apart i j n r z a b l = h j (b .0) .once i l (λ x. z (sym (b .1) ∙ x)) (a .1 ∙ sym (b .1)) (a .2 ∙ sym (b .2))
 
 -- Rule 7, one entry at a time
-
--- entry i, if it is an exception, is read by some living version
-abbrev pub ReadAt : Tree → Table → ℕ → Type 0
-ReadAt t e i = at (e .node) i ≢ 0 → (n : ℕ) × Alive t n × Reads t e (at (e .row) i) (e .rows + i) n
 
 module _ (t : Tree) (e : Table) (marks : List ℕ) (h : Judging t e marks) where
   -- from a node in use, to meet g at row r is to read g's own row r

@@ -8,7 +8,7 @@ use lib.ListN.{length}
 use Rattle.basics.specs.Decide.{Decides, at}
 use Rattle.records.specs.declared.Tree.{Tree}
 use Rattle.records.specs.Records.{Table, InUse, Alive, up}
-use Rattle.records.specs.Reading.{Owns}
+use Rattle.records.specs.Reading.{Owns, Reads}
 use Rattle.records.specs.Sound.{Linked, Excepting, AllRead}
 
 -- the rules 6 and 7
@@ -77,3 +77,7 @@ pub record Judging (t : Tree) (e : Table) (marks : List ℕ) : Type 0 where
   pub fitting : Fitting t e
   pub excepting : Excepting t e
   pub marked : Marked e marks (length (e .node))
+
+-- rule 7 at entry i: if it is an exception, it is read by some living version
+abbrev pub ReadAt : Tree → Table → ℕ → Type 0
+ReadAt t e i = at (e .node) i ≢ 0 → (n : ℕ) × Alive t n × Reads t e (at (e .row) i) (e .rows + i) n

@@ -5,7 +5,7 @@ ghost use lib.ListN.{length};
 ghost use Rattle.basics.specs.Decide.{Decides};
 ghost use Rattle.records.specs.Records.{treeOf, tableOf};
 ghost use Rattle.records.specs.Sound.{AllRead};
-ghost use Rattle.table.specs.Rules.{Fitting, Entering, Entered, Entries, Seeking, Seeker, Meets, Met, Judging, TableSound};
+ghost use Rattle.table.specs.Rules.{Fitting, Entering, Entered, Entries, Seeking, Seeker, Meets, Met, Judging, ReadAt, TableSound};
 
 // A byte as an index, and a 16-bit number.
 fn wide(x: u8) -> usize
@@ -137,7 +137,35 @@ fn met<'a>(
     false
 }
 
-// Rule 7, of a table that meets rule 6. A living node reads its own rows; only a ghost's are looked for.
+// Rule 7 at one entry. A living node reads its own rows; only a ghost's are looked for.
+fn is_read<'a>(
+    state: &'a [u8; 128],
+    tag: &'a [u16; 128],
+    parent: &'a [u8; 128],
+    rows: usize,
+    node: &'a [u8],
+    row: &'a [u16],
+    marks: &'a [u8; 131072],
+    i: usize,
+) -> bool
+    requires { ⌜ (i < length (now node)) × Judging (treeOf (now state) (now tag) (now parent)) (tableOf rows (now node) (now row)) (now marks) ⌝ }
+    ensures { λ b. ⌜ Decides b (ReadAt (treeOf (now (state .entry)) (now (tag .entry)) (now (parent .entry))) (tableOf rows (now (node .entry)) (now (row .entry))) i) ⌝ }
+{
+    let g = wide(node[i]);
+    if g == 0 {
+        return true;
+    }
+    if state[g] == 1 {
+        return true;
+    }
+    let r = wide16(row[i]);
+    if met(state, tag, parent, marks, g, r) {
+        return true;
+    }
+    false
+}
+
+// Rule 7, of a table that meets rule 6.
 fn all_read<'a>(
     state: &'a [u8; 128],
     tag: &'a [u16; 128],
@@ -152,14 +180,8 @@ fn all_read<'a>(
 {
     let mut i: usize = 0;
     while i < node.len() {
-        let g = wide(node[i]);
-        if g != 0 {
-            if state[g] != 1 {
-                let r = wide16(row[i]);
-                if !met(state, tag, parent, marks, g, r) {
-                    return false;
-                }
-            }
+        if !is_read(state, tag, parent, rows, node, row, marks, i) {
+            return false;
         }
         i += 1;
     }

@@ -1,0 +1,151 @@
+// Opens a store, counts it and reads it; then reads a store whose records are written out here: the one that is
+// drawn beside the records' definition, with 3 rows of 4 bytes in 7 places.
+use libc::STDOUT_FILENO;
+use measures::Row;
+use measures::Size;
+use records::Tree;
+
+fn number(n: usize) {
+    io::print_decimal(STDOUT_FILENO, n as u64);
+}
+
+fn show_count<'a>(size: Size, tree: Tree, node: &'a [u8], row: &'a [u16]) {
+    let c = queries::count(size, tree, node, row);
+    io::write_all(STDOUT_FILENO, b"count: answer ");
+    number(c.answer as usize);
+    io::write_all(STDOUT_FILENO, b", places in use ");
+    number(c.used);
+    io::write_all(STDOUT_FILENO, b", snapshots alive ");
+    number(c.snapshots);
+    io::write_all(STDOUT_FILENO, b"\n");
+}
+
+fn show_byte(b: u8) {
+    io::print_hex(STDOUT_FILENO, b as u64, 2);
+}
+
+fn show_row(bytes: &[u8]) {
+    let mut i: usize = 0;
+    while i < bytes.len() {
+        show_byte(bytes[i]);
+        i += 1;
+    }
+}
+
+fn show_read<'a>(
+    size: Size,
+    tree: Tree,
+    node: &'a [u8],
+    row: &'a [u16],
+    places: &'a [u8],
+    tag: u16,
+    r: usize,
+) {
+    let mut answer: u8 = 0;
+    let bytes = queries::read(size, tree, node, row, places, tag, Row(r), &mut answer);
+    io::write_all(STDOUT_FILENO, b"read tag ");
+    number(tag as usize);
+    io::write_all(STDOUT_FILENO, b" row ");
+    number(r);
+    io::write_all(STDOUT_FILENO, b": answer ");
+    number(answer as usize);
+    io::write_all(STDOUT_FILENO, b", bytes ");
+    show_row(bytes);
+    io::write_all(STDOUT_FILENO, b"\n");
+}
+
+// A fresh store of 4 rows of 8 bytes in 6 places.
+fn fresh() {
+    let size = Size {
+        rows: 4,
+        width: 8,
+        places: 6,
+    };
+    let mut places = [255u8; 48];
+    let mut node = [255u8; 2];
+    let mut row = [255u16; 2];
+    let opened = opening::open(size, &mut places, &mut node, &mut row);
+    io::write_all(STDOUT_FILENO, b"open: answer ");
+    number(opened.answer as usize);
+    io::write_all(STDOUT_FILENO, b"\n");
+    let tree = opened.tree;
+    show_count(size, tree, &node, &row);
+    show_read(size, tree, &node, &row, &places, 0, 3);
+    show_read(size, tree, &node, &row, &places, 0, 4);
+    show_read(size, tree, &node, &row, &places, 7, 0);
+}
+
+// The tree of the drawing: node 0, a ghost 1 below it, tags 7 and 9 below that, tag 8 below tag 7.
+fn drawn_tree() -> Tree {
+    let mut state = [0u8; 128];
+    let mut tag = [0u16; 128];
+    let mut parent = [0u8; 128];
+    state[0] = 1;
+    state[1] = 2;
+    state[2] = 1;
+    state[3] = 1;
+    state[4] = 1;
+    tag[2] = 8;
+    tag[3] = 7;
+    tag[4] = 9;
+    parent[2] = 3;
+    parent[3] = 1;
+    parent[4] = 1;
+    Tree { state, tag, parent }
+}
+
+fn drawn() {
+    let size = Size {
+        rows: 3,
+        width: 4,
+        places: 7,
+    };
+    let tree = drawn_tree();
+    let node = [1u8, 0, 3, 4];
+    let row = [2u16, 0, 2, 0];
+    let places = [
+        0u8,
+        0,
+        0,
+        0,
+        16,
+        16,
+        16,
+        16,
+        32,
+        32,
+        32,
+        32,
+        48,
+        48,
+        48,
+        48,
+        0,
+        0,
+        0,
+        0,
+        80,
+        80,
+        80,
+        80,
+        96,
+        96,
+        96,
+        96,
+    ];
+    show_count(size, tree, &node, &row);
+    show_read(size, tree, &node, &row, &places, 0, 2);
+    show_read(size, tree, &node, &row, &places, 7, 2);
+    show_read(size, tree, &node, &row, &places, 8, 2);
+    show_read(size, tree, &node, &row, &places, 9, 2);
+    show_read(size, tree, &node, &row, &places, 9, 0);
+    let damaged = [1u8, 0, 3, 3];
+    show_count(size, tree, &damaged, &row);
+    let twice = [2u16, 0, 2, 2];
+    show_count(size, tree, &damaged, &twice);
+}
+
+fn main() {
+    fresh();
+    drawn();
+}
