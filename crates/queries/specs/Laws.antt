@@ -14,7 +14,7 @@ use Rattle.basics.specs.Decide.{not-yes, not-no}
 use Rattle.measures.specs.Measures.{beginsAt, bytesAt}
 use Rattle.records.specs.declared.Tree.{Tree}
 use Rattle.records.specs.Records.{Records, table, Alive, InUse, version}
-use Rattle.records.specs.Reading.{place}
+use Rattle.records.specs.Reading.{place, lives, tagPlace}
 use Rattle.records.specs.Sound.{Sound}
 use Rattle.tree.specs.Nodes.{version-alive}
 use Rattle.reading.specs.Lookup.{Looking}
@@ -22,7 +22,7 @@ use Rattle.reading.specs.Used.{place-low}
 use Rattle.model.specs.Call.{Refusal, bad-length, bad-row, unknown-tag, unsound, Answer, row, refused, number}
 use Rattle.model.specs.Model.{Tests, refusal, unless}
 use Rattle.model.specs.Tests.{refusal-here, refusal-next, refusal-none}
-use Rattle.queries.specs.Queries.{Judged, Hands, missing, readTests, rowAt, rowBy, readAnswer, Inside}
+use Rattle.queries.specs.Queries.{Judged, Hands, readTests, rowOfTag, readAnswer, Inside}
 
 -- with the judgement known, one side is left
 pub judged-sound : {z : Records} {Yes No : Type 0} → Sound z → Yes → Judged z Yes No
@@ -38,7 +38,7 @@ module _ (z : Records) (places : List ℕ) (tag r : ℕ) where
   hands-refused x e = record { numbered = rw e; handed = rw e }
 
   tagTest : Tests
-  tagTest = (missing (version (z .tree) tag), unknown-tag) ∷ []
+  tagTest = (not (lives z tag), unknown-tag) ∷ []
 
   rowTest : Tests
   rowTest = (leb (z .size .rows) r, bad-row) ∷ tagTest
@@ -62,11 +62,11 @@ module _ (z : Records) (places : List ℕ) (tag r : ℕ) where
       row-passed = length-passed ∙ refusal-next bad-row tagTest (lt-leb _ _ l)
 
       pub read-tag : version (z .tree) tag ≡ none → Hands (readAnswer z places tag r) 21 []
-      unfolding tagTest
+      unfolding tagTest lives
       read-tag v = hands-refused unknown-tag (row-passed ∙ refusal-here unknown-tag [] (rw v))
 
-      pub read-done : (n : ℕ) → version (z .tree) tag ≡ some n → Hands (readAnswer z places tag r) 0 (rowAt z places n r)
-      unfolding tagTest readAnswer
+      pub read-done : (n : ℕ) → version (z .tree) tag ≡ some n → Hands (readAnswer z places tag r) 0 (bytesAt (z .size .width) places (place (z .tree) (table z) n r))
+      unfolding tagTest lives readAnswer rowOfTag tagPlace
       read-done n v =
           let e : refusal (readTests z (length places) tag r) ≡ none = row-passed ∙ refusal-next unknown-tag [] (rw v) ∙ refusal-none in
           record { numbered = rw e; handed = rw (e, v) }

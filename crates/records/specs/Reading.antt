@@ -2,7 +2,7 @@
 -- the row's own). As a relation to be believed, and as a function that contracts cite. Definitions only. Assumes nothing.
 use mathlib.Core.Path.{_≡_}
 use mathlib.Core.Logic.{_≢_}
-use mathlib.Core.Bool.{Bool, _&&_, cond}
+use mathlib.Core.Bool.{Bool, true, false, _&&_, cond}
 use mathlib.Core.Option.{Option, none, some}
 use Prim.Native.Nat.{ℕ, zero, suc, _+_, _<_}
 use lib.Dec.{eqb}
@@ -10,7 +10,7 @@ use lib.ListN.{length}
 use Rattle.basics.specs.Decide.{at}
 use Rattle.basics.specs.Count.{first}
 use Rattle.records.specs.declared.Tree.{Tree}
-use Rattle.records.specs.Records.{Table, up}
+use Rattle.records.specs.Records.{Table, Records, table, up, version}
 
 -- node n has its own row r at entry i
 abbrev pub Owns : Table → ℕ → ℕ → ℕ → Type 0
@@ -41,3 +41,19 @@ climb t e r (suc k) n = cond (eqb n 0) r (placeOr (e .rows) (entry e n r) (climb
 
 unfoldable pub place : Tree → Table → ℕ → ℕ → ℕ
 place t e n r = climb t e r 128 n
+
+-- By tag: whether a version lives, and the place from which it reads a row
+
+abbrev pub isFound : Option ℕ → Bool
+isFound none = false
+isFound (some n) = true
+
+unfoldable pub lives : Records → ℕ → Bool
+lives z u = isFound (version (z .tree) u)
+
+abbrev pub placeBy : Records → Option ℕ → ℕ → ℕ
+placeBy z none r = 0
+placeBy z (some n) r = place (z .tree) (table z) n r
+
+unfoldable pub tagPlace : Records → ℕ → ℕ → ℕ
+tagPlace z u r = placeBy z (version (z .tree) u) r

@@ -9,7 +9,6 @@ use Rattle.basics.specs.Decide.{passed, failed}
 use Rattle.records.specs.Records.{recordsOf, version}
 use Rattle.records.specs.Sound.{Sound}
 use Rattle.tree.specs.Rules.{found-at, found-missing}
-use Rattle.queries.specs.Queries.{rowAt}
 use Rattle.queries.specs.Laws.{judged-sound, judged-unsound, read-length, read-row, read-tag, read-done, version-used, looking, read-inside}
 use Rattle.queries.proofs.read.Statement.{statement}
 use Rattle.queries.proofs.read.Tie as tie
@@ -96,7 +95,6 @@ part-requires c κs =
     rw (c .lookup .ensures) (read-inside _ (judged (p .before .before)) _ (p .if2 .left) _ _ (version-used _ _ _ (known k)) (low k))
 
 returns-5 : tie.Need-returns-5
-unfolding rowAt
 returns-5 c =
     let l = c .before in
     let k = l .before .before .before .before .before in

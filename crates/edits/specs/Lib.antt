@@ -1,0 +1,5 @@
+pub mod Edits
+pub mod Solve
+pub mod Grow
+pub mod GrowCopied
+pub mod Snapshots
