@@ -43,7 +43,7 @@ alive tags t = any (eqb t) (living tags)
 unfoldable pub snapshotsAlive : List ℕ → ℕ
 snapshotsAlive tags = pred (different (λ t. t) (living tags))
 
--- (t, 0) .. (t, n - 1), in front of cs; then the same for every tag of a list
+-- (t, n - 1) .. (t, 0), in front of cs; then the same for every tag of a list
 abbrev pub rowsOf : ℕ → ℕ → List Cell → List Cell
 rowsOf t zero cs = cs
 rowsOf t (suc n) cs = (t, n) ∷ rowsOf t n cs

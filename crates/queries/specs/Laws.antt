@@ -19,17 +19,10 @@ use Rattle.records.specs.Sound.{Sound}
 use Rattle.tree.specs.Nodes.{version-alive}
 use Rattle.reading.specs.Lookup.{Looking}
 use Rattle.reading.specs.Used.{place-low}
-use Rattle.model.specs.Call.{Refusal, bad-length, bad-row, unknown-tag, unsound, Answer, row, refused, number}
+use Rattle.model.specs.Call.{Refusal, bad-length, bad-row, unknown-tag, number}
 use Rattle.model.specs.Model.{Tests, refusal, unless}
 use Rattle.model.specs.Tests.{refusal-here, refusal-next, refusal-none}
-use Rattle.queries.specs.Queries.{Judged, Hands, readTests, rowOfTag, readAnswer, Inside}
-
--- with the judgement known, one side is left
-pub judged-sound : {z : Records} {Yes No : Type 0} → Sound z → Yes → Judged z Yes No
-judged-sound s y = record { sound = λ x. y; unsound = λ f. absurd (f s) }
-
-pub judged-unsound : {z : Records} {Yes No : Type 0} → (Sound z → ⊥) → No → Judged z Yes No
-judged-unsound f n = record { sound = λ s. absurd (f s); unsound = λ x. n }
+use Rattle.queries.specs.Queries.{Hands, readTests, rowOfTag, readAnswer, Inside}
 
 module _ (z : Records) (places : List ℕ) (tag r : ℕ) where
   -- a refused read hands out the empty part

@@ -8,14 +8,8 @@ use lib.ListN.{length}
 use Rattle.measures.specs.Measures.{beginsAt, bytesAt}
 use Rattle.records.specs.Records.{Records, table, snapshots, used}
 use Rattle.records.specs.Reading.{lives, tagPlace}
-use Rattle.records.specs.Sound.{Sound}
 use Rattle.model.specs.Call.{bad-length, bad-row, unknown-tag, Answer, row, counts, refused, numberOf, rowOf, usedOf, snapshotsOf}
 use Rattle.model.specs.Model.{Tests, refusal, unless}
-
--- what holds of a call on sound records, and on others
-pub record Judged (z : Records) (Yes No : Type 0) : Type 0 where
-  pub sound : Sound z → Yes
-  pub unsound : (Sound z → ⊥) → No
 
 -- the caller is handed an answer: its number and its row; its number and its two counts
 pub record Hands (a : Answer) (number : ℕ) (bytes : List ℕ) : Type 0 where

@@ -1,8 +1,9 @@
 -- `queries::count` meets its contract. Assumes nothing.
 use borrow.Author.Needs.{needs}
 use mathlib.Core.Path.{refl}
-use Rattle.queries.specs.Laws.{judged-sound, judged-unsound, few-places}
+use Rattle.queries.specs.Laws.{few-places}
 use Rattle.records.specs.Sound.{Sound}
+use Rattle.soundness.specs.Judged.{judged-sound, judged-unsound}
 use Rattle.records.specs.Records.{recordsOf}
 use Rattle.basics.specs.Decide.{passed, failed}
 use Rattle.queries.proofs.count.Statement.{statement}

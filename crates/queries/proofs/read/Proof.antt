@@ -8,8 +8,9 @@ use native.Mathlib.Omega.{arith}
 use Rattle.basics.specs.Decide.{passed, failed}
 use Rattle.records.specs.Records.{recordsOf, version}
 use Rattle.records.specs.Sound.{Sound}
+use Rattle.soundness.specs.Judged.{judged-sound, judged-unsound}
 use Rattle.tree.specs.Rules.{found-at, found-missing}
-use Rattle.queries.specs.Laws.{judged-sound, judged-unsound, read-length, read-row, read-tag, read-done, version-used, looking, read-inside}
+use Rattle.queries.specs.Laws.{read-length, read-row, read-tag, read-done, version-used, looking, read-inside}
 use Rattle.queries.proofs.read.Statement.{statement}
 use Rattle.queries.proofs.read.Tie as tie
 

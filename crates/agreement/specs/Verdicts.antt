@@ -1,0 +1,87 @@
+-- What an accepted call has passed; under agreement the map gives the model's verdict, counts and answer. Assumes nothing.
+use mathlib.Core.Path.{_≡_, refl, _∙_, ap, ap₂}
+use mathlib.Core.Logic.{_≢_}
+use mathlib.Core.Bool.{Bool, true, false, _&&_}
+use mathlib.Core.List.{List, [], _∷_}
+use mathlib.Core.Option.{Option, none, some}
+use Prim.Native.Nat.{ℕ}
+use native.Mathlib.Omega.{arith}
+use lib.Dec.{leb}
+use borrow.Author.Tests.{eqb-false, leb-false, not-false}
+use Rattle.measures.specs.declared.Size.{Size}
+use Rattle.model.specs.Call.{Call, snapshot, read, write, delete, count, Refusal, places-full, row, counts, refused}
+use Rattle.model.specs.Model.{Cell, Model, alive, placesUsed, snapshotsAlive, Tests, orElse, refusal, tests, accepted, unless, verdict, answer}
+use Rattle.agreement.specs.Agree.{Map, Live, mapVerdict, mapAnswer, Agree}
+use Rattle.agreement.specs.Counting.{used-tags, snapshots-tags, shared-tags, used-pattern, shared-pattern}
+
+-- none of the tests holds
+abbrev pub Passed : Tests → Type 0
+Passed [] = Unit {0}
+Passed (t ∷ ts) = (t .0 ≡ false) × Passed ts
+
+pub none-passed : (ts : Tests) → refusal ts ≡ none → Passed ts
+unfolding refusal
+none-passed [] e = tt
+none-passed (t ∷ ts) e = go (t .0) refl e (none-passed ts)
+  where
+    go : (b : Bool) → t .0 ≡ b → orElse b (t .1) (refusal ts) ≡ none → (refusal ts ≡ none → Passed ts) → Passed (t ∷ ts)
+    go true k x f = let z : _≡_ {A = ℕ} 0 1 = cc in absurd (omega arith)
+    go false k x f = (k, f x)
+
+module _ (z : Size) (tags : List ℕ) (f : Cell → ℕ) where
+  pub snapshot-passed : (s t : ℕ) → refusal (tests z tags f (snapshot s t)) ≡ none → (t ≢ 0) × (alive tags s ≡ true)
+  unfolding tests
+  snapshot-passed s t e = let p = none-passed (tests z tags f (snapshot s t)) e in (eqb-false t 0 (p .0), not-false _ (p .1 .0))
+
+  pub read-passed : (t r : ℕ) → refusal (tests z tags f (read t r)) ≡ none → Live (z .rows) tags (t, r)
+  unfolding tests
+  read-passed t r e = let p = none-passed (tests z tags f (read t r)) e in (not-false _ (p .1 .0), leb-false _ _ (p .0))
+
+  pub write-passed : (t r : ℕ) (bs : List ℕ) → refusal (tests z tags f (write t r bs)) ≡ none → Live (z .rows) tags (t, r)
+  unfolding tests
+  write-passed t r bs e = let p = none-passed (tests z tags f (write t r bs)) e in (not-false _ (p .1 .1 .0), leb-false _ _ (p .1 .0))
+
+  pub delete-passed : (t : ℕ) → refusal (tests z tags f (delete t)) ≡ none → t ≢ 0
+  unfolding tests
+  delete-passed t e = eqb-false t 0 (none-passed (tests z tags f (delete t)) e .0)
+
+-- later tests may be compared as if the earlier ones did not hold
+refusal-same : (b : Bool) (r : Refusal) (ts us : Tests) → (b ≡ false → refusal ts ≡ refusal us) → refusal ((b, r) ∷ ts) ≡ refusal ((b, r) ∷ us)
+unfolding refusal
+refusal-same true r ts us h = refl
+refusal-same false r ts us h = h refl
+
+unless-same : {A : Type 0} (v : Option Refusal) (f : Refusal → A) {x y : A} → (v ≡ none → x ≡ y) → unless v f x ≡ unless v f y
+unless-same none f h = h refl
+unless-same (some r) f h = refl
+
+module _ (z : Size) {m : Map} {s : Model} (a : Agree z m s) where
+  -- as many places as marks
+  pub used-same : placesUsed (z .rows) (m .tags) (m .place) ≡ placesUsed (z .rows) (s .snapshots) (s .mark)
+  used-same = used-tags (m .tags) (s .snapshots) (a .tags) (z .rows) (m .place) ∙ used-pattern (z .rows) (s .snapshots) (m .place) (s .mark) (a .names)
+
+  snapshots-same : snapshotsAlive (m .tags) ≡ snapshotsAlive (s .snapshots)
+  snapshots-same = snapshots-tags (m .tags) (s .snapshots) (a .tags)
+
+  pub verdict-same : (c : Call) → mapVerdict z m c ≡ verdict z s c
+  unfolding mapVerdict verdict tests
+  verdict-same (snapshot u t) = rw (a .tags u, a .tags t, snapshots-same)
+  verdict-same (read t r) = rw (a .tags t)
+  verdict-same (write t r bs) = rw (a .tags t) (refusal-same _ _ _ _ (λ o. refusal-same _ _ _ _ (λ l. refusal-same _ _ _ _ (λ h.
+      ap₂ (λ (x : Bool) (n : ℕ). refusal ((x && leb (z .places) n, places-full) ∷ []))
+      (shared-tags (m .tags) (s .snapshots) (a .tags) (m .place) t r ∙ shared-pattern (z .rows) (s .snapshots) (m .place) (s .mark) (a .names) t r (not-false _ h, leb-false _ _ l))
+      used-same))))
+  verdict-same (delete t) = rw (a .tags t)
+  verdict-same count = refl
+
+  accepted-same : (c : Call) → verdict z s c ≡ none → accepted z (m .tags) (m .place) (λ d. m .bytes (m .place d)) c ≡ accepted z (s .snapshots) (s .mark) (s .bytes) c
+  unfolding accepted verdict
+  accepted-same (snapshot u t) e = refl
+  accepted-same (read t r) e = ap row (a .bytes (t, r) (read-passed z (s .snapshots) (s .mark) t r e))
+  accepted-same (write t r bs) e = refl
+  accepted-same (delete t) e = refl
+  accepted-same count e = ap₂ counts used-same snapshots-same
+
+  pub answer-same : (c : Call) → mapAnswer z m c ≡ answer z s c
+  unfolding mapAnswer answer
+  answer-same c = rw (verdict-same c) (unless-same (verdict z s c) refused (accepted-same c))
