@@ -1,0 +1,74 @@
+-- The first empty node and the first child of a node, and the laws of their searches. Assumes nothing.
+use mathlib.Core.Path.{_≡_, refl, sym, _∙_}
+use mathlib.Core.Logic.{_≢_}
+use mathlib.Core.Bool.{Bool, true, false, not, false≢true}
+use mathlib.Core.Option.{Option, none, some}
+use Prim.Native.Nat.{ℕ, _+_, _≤_, _<_}
+use native.Mathlib.Omega.{arith}
+use borrow.Author.Tests.{not-true, not-false, eqb-true}
+use Rattle.basics.specs.Decide.{at, not-yes, not-no}
+use Rattle.basics.specs.Count.{first}
+use Rattle.basics.specs.CountLaws.{first-some, first-none, first-yes, first-no, first-more, first-start}
+use Rattle.records.specs.declared.Tree.{Tree}
+use Rattle.records.specs.Records.{up, Child, isUsed, nodesUsed, isChild}
+use Rattle.tree.specs.Nodes.{used-yes, used-no, used-of, child-yes, child-of}
+use Rattle.bound.specs.Bound.{empty-node}
+use Rattle.edits.specs.Edits.{EmptyNode}
+
+unfoldable pub emptyNode : Tree → Option ℕ
+emptyNode t = first (λ n. not (isUsed t n)) 128
+
+unfoldable pub firstChild : Tree → ℕ → Option ℕ
+firstChild t p = first (isChild t p) 128
+
+module _ (t : Tree) where
+  pub empty-of : (m : ℕ) → emptyNode t ≡ some m → EmptyNode t m
+  unfolding emptyNode isUsed
+  empty-of m e = let s = first-some (λ n. not (isUsed t n)) 128 m e in (s .low, eqb-true _ 0 (not-false _ (not-true _ (s .passes))))
+
+  -- the search passes nodes in use
+  pub record Passing (n : ℕ) : Type 0 where
+    pub most : n ≤ 128
+    pub none : first (λ k. not (isUsed t k)) n ≡ none
+
+  pub passing-start : Passing 0
+  passing-start = record { most = omega arith; none = first-start _ }
+
+  pub passing-next : (n : ℕ) → n < 128 → Passing n → at (t .state) n ≢ 0 → Passing (n + 1)
+  passing-next n l p h = record { most = omega arith; none = first-no (λ k. not (isUsed t k)) n (p .none) (not-no (used-yes t n h)) }
+
+  pub passing-stop : (n : ℕ) → n < 128 → Passing n → at (t .state) n ≡ 0 → emptyNode t ≡ some n
+  unfolding emptyNode
+  passing-stop n l p h = first-more (λ k. not (isUsed t k)) (n + 1) 128 n (first-yes (λ k. not (isUsed t k)) n (p .none) (not-yes (used-no t n h))) (omega arith)
+
+  -- and stops before the end where fewer than 128 are in use
+  pub passing-over : nodesUsed t < 128 → Passing 128 → ⊥
+  passing-over h p =
+      let (n, l, e) = empty-node t h in
+      let x : not (isUsed t n) ≡ false = first-none (λ k. not (isUsed t k)) 128 (p .none) n l in
+      let y : not (isUsed t n) ≡ true = not-yes (used-no t n e) in
+      false≢true (sym x ∙ y)
+
+  -- the search for a child starts behind node 0
+  pub child-start : (p : ℕ) → first (isChild t p) 1 ≡ none
+  unfolding isChild
+  child-start p = first-no (isChild t p) 0 (first-start (isChild t p)) refl
+
+  pub child-here : (p n : ℕ) → first (isChild t p) n ≡ none → Child t p n → firstChild t p ≡ some n
+  unfolding firstChild
+  child-here p n e c = first-more (isChild t p) (n + 1) 128 n (first-yes (isChild t p) n e (child-yes t p n c)) (omega (arith, c .1 .0))
+
+  pub child-past : (p n : ℕ) → n < 128 → first (isChild t p) n ≡ none → (Child t p n → ⊥) → first (isChild t p) (n + 1) ≡ none
+  child-past p n l e h = first-no (isChild t p) n e (go (isChild t p n) refl)
+    where
+      go : (b : Bool) → isChild t p n ≡ b → isChild t p n ≡ false
+      go true x = absurd (h (child-of t p n l x))
+      go false x = x
+
+  pub child-some : (p c : ℕ) → firstChild t p ≡ some c → Child t p c
+  unfolding firstChild
+  child-some p c e = let s = first-some (isChild t p) 128 c e in child-of t p c (s .low) (s .passes)
+
+  pub child-none : (p : ℕ) → firstChild t p ≡ none → (c : ℕ) → Child t p c → ⊥
+  unfolding firstChild
+  child-none p e c h = false≢true (sym (first-none (isChild t p) 128 e c (h .1 .0)) ∙ child-yes t p c h)

@@ -1,0 +1,84 @@
+// Nodes for a change of the tree: an empty one, a child, and the tree with one node changed.
+ghost use mathlib.Core.Path.{_≡_};
+ghost use mathlib.Core.Option.{some};
+ghost use Prim.Native.Nat.{ℕ, _<_};
+ghost use Rattle.records.specs.Records.{treeOf, nodesUsed};
+ghost use Rattle.tree.specs.Rules.{foundOf};
+ghost use Rattle.edits.specs.Edits.{grown, hung, split};
+ghost use Rattle.nodes.specs.Nodes.{emptyNode, firstChild};
+use records::Tree;
+use tree::Found;
+
+// The first empty node, of a tree that has one.
+pub fn empty_node<'a>(state: &'a [u8; 128], tag: &'a [u16; 128], parent: &'a [u8; 128]) -> usize
+    requires { ⌜ nodesUsed (treeOf (now state) (now tag) (now parent)) < 128 ⌝ }
+    ensures { λ m. ⌜ emptyNode (treeOf (now (state .entry)) (now (tag .entry)) (now (parent .entry))) ≡ some m ⌝ }
+{
+    let mut n: usize = 0;
+    while n < 128 {
+        if state[n] == 0 {
+            return n;
+        }
+        n += 1;
+    }
+    n
+}
+
+fn wide(x: u8) -> usize
+    ensures { λ r. ⌜ r ≡ x ⌝ }
+{
+    x as usize
+}
+
+// The first child of a node.
+pub fn child<'a>(state: &'a [u8; 128], tag: &'a [u16; 128], parent: &'a [u8; 128], p: usize) -> Found
+    ensures { λ r. ⌜ r ≡ foundOf (firstChild (treeOf (now (state .entry)) (now (tag .entry)) (now (parent .entry))) p) ⌝ }
+{
+    let mut n: usize = 1;
+    while n < 128 {
+        if state[n] != 0 {
+            if wide(parent[n]) == p {
+                return Found::At(n);
+            }
+        }
+        n += 1;
+    }
+    Found::Missing
+}
+
+// A new living node m, with a tag, under node p.
+pub fn grown(tree: Tree, m: usize, tag: u16, p: usize) -> Tree
+    requires { ⌜ (m < 128) × (p < 128) ⌝ }
+    ensures { λ t. ⌜ t ≡ grown tree m tag p ⌝ }
+{
+    let mut t = tree;
+    t.state[m] = 1;
+    t.tag[m] = tag;
+    t.parent[m] = p as u8;
+    t
+}
+
+// Node c is hung under node p.
+pub fn hung(tree: Tree, c: usize, p: usize) -> Tree
+    requires { ⌜ (c < 128) × (p < 128) ⌝ }
+    ensures { λ t. ⌜ t ≡ hung tree c p ⌝ }
+{
+    let mut t = tree;
+    t.parent[c] = p as u8;
+    t
+}
+
+// Node v becomes a ghost, and its tag passes to a new child m.
+pub fn split(tree: Tree, v: usize, m: usize) -> Tree
+    requires { ⌜ (v < 128) × (m < 128) ⌝ }
+    ensures { λ t. ⌜ t ≡ split tree v m ⌝ }
+{
+    let mut t = tree;
+    let tag = t.tag[v];
+    t.state[v] = 2;
+    t.tag[v] = 0;
+    t.state[m] = 1;
+    t.tag[m] = tag;
+    t.parent[m] = v as u8;
+    t
+}
