@@ -118,6 +118,10 @@ module _ (t : Tree) (s : States t) (l : Linked t) (b : Branching t) where
       (λ n k f h u. by-cases (ℕ-discrete (up t n) 0) (λ z. parent-yes t 0 n (s .root .0) (h, u, z)) (λ z. f z (l .parent n h u)))
       n (l .reaches n h u) h u
 
+  -- with or without a snapshot there is room for one node more than twice their number
+  pub node-room : nodesUsed t ≤ 2 * snapshots t + 1
+  node-room = omega (arith, spare)
+
   -- with S snapshots, S at least 1, at most 2 × S nodes are in use
   pub node-bound : 1 ≤ snapshots t → nodesUsed t ≤ 2 * snapshots t
   unfolding snapshots

@@ -3,3 +3,13 @@ pub mod Solve
 pub mod Grow
 pub mod GrowCopied
 pub mod Snapshots
+pub mod WriteReaders
+pub mod Enter
+pub mod EnterPlace
+pub mod EnterOwn
+pub mod EnterSave
+pub mod SplitCount
+pub mod Split
+pub mod SplitRules
+pub mod SplitPlace
+pub mod Writes

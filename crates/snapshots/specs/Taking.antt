@@ -1,0 +1,46 @@
+-- What a snapshot answers and leaves: document 01's tests after 20, and the new tree. Definitions only. Assumes nothing.
+use mathlib.Core.Bool.{not, cond}
+use mathlib.Core.List.{[], _∷_}
+use mathlib.Core.Option.{Option, none, some}
+use Prim.Native.Nat.{ℕ}
+use lib.Dec.{eqb, leb}
+use Rattle.records.specs.declared.Tree.{Tree}
+use Rattle.records.specs.Records.{Records, snapshots, version}
+use Rattle.records.specs.Reading.{lives}
+use Rattle.model.specs.Call.{Refusal, zero-tag, unknown-tag, tag-alive, snapshots-full}
+use Rattle.model.specs.Model.{Tests, refusal}
+use Rattle.edits.specs.Edits.{grown, hung}
+use Rattle.nodes.specs.Nodes.{emptyNode, firstChild}
+
+unfoldable pub snapshotTests : Records → ℕ → ℕ → Tests
+snapshotTests z source new =
+    (eqb new 0, zero-tag)
+    ∷ (not (lives z source), unknown-tag)
+    ∷ (lives z new, tag-alive)
+    ∷ (leb 64 (snapshots (z .tree)), snapshots-full)
+    ∷ []
+
+unfoldable pub snapshotVerdict : Records → ℕ → ℕ → Option Refusal
+snapshotVerdict z source new = refusal (snapshotTests z source new)
+
+-- node c, if there is one, is hung under m
+abbrev pub hungBy : Tree → Option ℕ → ℕ → Tree
+hungBy t none m = t
+hungBy t (some c) m = hung t c m
+
+-- a new node m under v; node 0's former child goes below it
+abbrev pub grownBy : Tree → ℕ → ℕ → Option ℕ → Tree
+grownBy t v tag none = t
+grownBy t v tag (some m) = cond (eqb v 0) (hungBy (grown t m tag v) (firstChild t 0) m) (grown t m tag v)
+
+-- which empty node is taken is free: it is the first
+unfoldable pub treeAt : Tree → ℕ → ℕ → Tree
+treeAt t v tag = grownBy t v tag (emptyNode t)
+
+abbrev pub treeBy : Tree → Option ℕ → ℕ → Tree
+treeBy t none tag = t
+treeBy t (some v) tag = treeAt t v tag
+
+-- the tree after a snapshot of the version with tag source, under tag new
+unfoldable pub snapshotTree : Tree → ℕ → ℕ → Tree
+snapshotTree t source new = treeBy t (version t source) new
