@@ -31,7 +31,12 @@ fn wide(x: u8) -> usize
 }
 
 // The first child of a node.
-pub fn child<'a>(state: &'a [u8; 128], tag: &'a [u16; 128], parent: &'a [u8; 128], p: usize) -> Found
+pub fn child<'a>(
+    state: &'a [u8; 128],
+    tag: &'a [u16; 128],
+    parent: &'a [u8; 128],
+    p: usize,
+) -> Found
     ensures { λ r. ⌜ r ≡ foundOf (firstChild (treeOf (now (state .entry)) (now (tag .entry)) (now (parent .entry))) p) ⌝ }
 {
     let mut n: usize = 1;

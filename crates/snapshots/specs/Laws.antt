@@ -76,3 +76,17 @@ room z s h = omega (arith, node-room (z .tree) (s .states) (s .linked) (s .branc
 pub tree-of-source : (t : Tree) (source new v : ℕ) → version t source ≡ some v → snapshotTree t source new ≡ treeAt t v new
 unfolding snapshotTree
 tree-of-source t source new v e = rw e
+
+-- the new tree, by the nodes that were found
+module _ (t : Tree) (v tag m : ℕ) (e : emptyNode t ≡ some m) where
+  pub tree-under : v ≢ 0 → treeAt t v tag ≡ grown t m tag v
+  unfolding treeAt
+  tree-under h = rw (e, ne-eqb v 0 h)
+
+  pub tree-first : v ≡ 0 → firstChild t 0 ≡ none → treeAt t v tag ≡ grown t m tag v
+  unfolding treeAt
+  tree-first h c = rw (e, eq-eqb v 0 h, c)
+
+  pub tree-between : v ≡ 0 → (c : ℕ) → firstChild t 0 ≡ some c → treeAt t v tag ≡ hung (grown t m tag v) c m
+  unfolding treeAt
+  tree-between h c k = rw (e, eq-eqb v 0 h, k)

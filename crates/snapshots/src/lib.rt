@@ -33,12 +33,17 @@ fn with_snapshot(tree: Tree, v: usize, tag: u16) -> Tree
 }
 
 // Refusals: 20, 4, 21, 22, 23.
-pub fn snapshot<'a>(size: Size, tree: Tree, node: &'a [u8], row: &'a [u16], source: u16, new: u16) -> Snapped
-    ensures {
-        λ r. ⌜ Judged (recordsOf size tree (now (node .entry)) (now (row .entry)))
-            (Leaves (snapshotVerdict (recordsOf size tree (now (node .entry)) (now (row .entry))) source new) tree (snapshotTree tree source new) (r .answer) (r .tree))
-            ((r .answer ≡ number unsound) × (r .tree ≡ tree)) ⌝
-    }
+pub fn snapshot<'a>(
+    size: Size,
+    tree: Tree,
+    node: &'a [u8],
+    row: &'a [u16],
+    source: u16,
+    new: u16,
+) -> Snapped
+    ensures { λ r. ⌜ Judged (recordsOf size tree (now (node .entry)) (now (row .entry)))
+        (Leaves (snapshotVerdict (recordsOf size tree (now (node .entry)) (now (row .entry))) source new) tree (snapshotTree tree source new) (r .answer) (r .tree))
+        ((r .answer ≡ number unsound) × (r .tree ≡ tree)) ⌝ }
 {
     if !soundness::sound(size, tree, node, row) {
         return Snapped { answer: 20, tree };

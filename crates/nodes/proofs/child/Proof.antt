@@ -46,11 +46,14 @@ loop-less c = search needs
 loop-again : tie.Need-loop-again Inv-loop μ-loop
 loop-again c =
     let l = c .before .before in
-    let v = l .before .loop .inv in
-    (omega arith, omega arith, child-past _ _ _ (l .loop-test .taken) (v .2) (⊎-elim
-    (λ w h. w .3 .left (w .2 .ensures ∙ h .2))
-    (λ w h. h .1 .1 (w .left))
-    (c .if1 .came)))
+    let v = l .before .loop .inv in (
+      omega arith,
+      omega arith,
+      child-past _ _ _ (l .loop-test .taken) (v .2) (⊎-elim
+          (λ w h. w .3 .left (w .2 .ensures ∙ h .2))
+          (λ w h. h .1 .1 (w .left))
+          (c .if1 .came)),
+    )
 
 returns-2 : tie.Need-returns-2 Inv-loop μ-loop
 unfolding firstChild

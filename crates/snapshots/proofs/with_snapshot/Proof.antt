@@ -1,48 +1,54 @@
+-- `snapshots::with_snapshot` meets its contract. Assumes nothing.
 use borrow.Author.Needs.{needs}
+use mathlib.Core.Path.{_≡_, sym, _∙_, ap}
+use mathlib.Core.Option.{some}
+use native.Mathlib.Omega.{arith}
+use Rattle.snapshots.specs.Laws.{tree-under, tree-first, tree-between}
+use Rattle.nodes.specs.Nodes.{firstChild, empty-of, child-some}
+use Rattle.edits.specs.Edits.{hung}
+use Rattle.tree.specs.Rules.{found-at, found-missing}
 use Rattle.snapshots.proofs.with_snapshot.Statement.{statement}
 use Rattle.snapshots.proofs.with_snapshot.Tie as tie
-use Rattle.snapshots.proofs.with_snapshot.Reads as reads
-use Rattle.snapshots.proofs.with_snapshot.Lts as lts
-use Rattle.nodes.proofs.child.Reads as child-reads
-use Rattle.nodes.proofs.empty_node.Reads as empty-node-reads
-use Rattle.nodes.proofs.grown.Reads as grown-reads
-use Rattle.nodes.proofs.hung.Reads as hung-reads
 
--- src/lib.rt:23:9
 empty-node-requires : tie.Need-empty-node-requires
 empty-node-requires c κs = search needs
 
--- src/lib.rt:24:9
 grown-requires : tie.Need-grown-requires
-grown-requires c κs = ?
+grown-requires c κs = (empty-of _ _ (c .empty-node .ensures) .0, c .before .before .before .before .before .pre .0)
 
--- src/lib.rt:26:9
 returns : tie.Need-returns
-returns c = ?
+returns c = c .before .grown .ensures ∙ sym (tree-under _ _ _ _ (c .before .before .empty-node .ensures) (c .if1 .taken))
 
--- src/lib.rt:28:9
 child-requires : tie.Need-child-requires
 child-requires c κs = search needs
 
--- src/lib.rt:29:19
 enum-known-found : tie.Need-enum-known-found
 enum-known-found c = search needs
 
--- src/lib.rt:30:9
 enum-told : tie.Need-enum-told
 enum-told c = search needs
 
--- src/lib.rt:30:9
 returns-2 : tie.Need-returns-2
-returns-2 c = ?
+returns-2 c =
+    let k = c .before .before in
+    let i = k .before .before .before .before .before in
+    let s = i .before .before .before .before .before .before .before in
+    i .before .grown .ensures ∙ sym (tree-first _ _ _ _ (i .before .before .empty-node .ensures) (i .if1 .left) (found-missing (firstChild (s .args .t1) 0) (sym (c .enum-told .given .1) ∙ k .child .ensures)))
 
--- src/lib.rt:32:5
 hung-requires : tie.Need-hung-requires
-hung-requires c κs = ?
+hung-requires c κs =
+    let k = c .before .before .before in
+    let i = k .before .before .before .before .before in
+    let s = i .before .before .before .before .before .before .before in
+    (child-some _ _ _ (found-at (firstChild (s .args .t1) 0) _ (sym (c .before .found .given .1) ∙ k .child .ensures)) .1 .0, empty-of _ _ (i .before .before .empty-node .ensures) .0)
 
--- src/lib.rt:19:1
 returns-3 : tie.Need-returns-3
-returns-3 c = ?
+returns-3 c =
+    let f = c .before .before in
+    let k = f .before .before in
+    let i = k .before .before .before .before .before in
+    let s = i .before .before .before .before .before .before .before in
+    c .hung .ensures ∙ rw (i .before .grown .ensures) (sym (tree-between _ _ _ _ (i .before .before .empty-node .ensures) (i .if1 .left) _ (found-at (firstChild (s .args .t1) 0) _ (sym (f .found .given .1) ∙ k .child .ensures))))
 
 pub with-snapshot-spec : {M : Type 1} → statement M
 with-snapshot-spec =
