@@ -59,6 +59,24 @@ pub fn home(row: Row) -> Place
     Place(row.0)
 }
 
+// Are the two the same place?
+pub fn same_place(p: Place, q: Place) -> bool
+    ensures { λ b. ⌜ Decides b (p .0 ≡ q .0) ⌝ }
+{
+    if p.0 == q.0 {
+        return true;
+    }
+    false
+}
+
+// A row's number as the table holds it.
+pub fn row_number(row: Row) -> u16
+    requires { ⌜ row .0 < 1024 ⌝ }
+    ensures { λ x. ⌜ x ≡ row .0 ⌝ }
+{
+    row.0 as u16
+}
+
 // The first byte of a place.
 pub fn offset(width: usize, place: Place) -> usize
     requires { ⌜ (width ≤ 1024) × (place .0 < 4096) ⌝ }

@@ -47,7 +47,7 @@ fn own_entry<'a>(rows: usize, node: &'a [u8], row: &'a [u16], n: usize, r: Row) 
 }
 
 // The place of an entry.
-fn held(rows: usize, i: usize) -> Place
+pub fn held(rows: usize, i: usize) -> Place
     requires { ⌜ rows + i ≤ 4096 ⌝ }
     ensures { λ p. ⌜ p .0 ≡ rows + i ⌝ }
 {

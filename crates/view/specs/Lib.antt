@@ -1,0 +1,6 @@
+pub mod View
+pub mod Tags
+pub mod Places
+pub mod Viewed
+pub mod Starts
+pub mod Queried

@@ -1,0 +1,45 @@
+-- Read and count on a store are steps of its view: they answer as the place map does, and change nothing. Assumes nothing.
+use mathlib.Core.Path.{_≡_, refl, sym, _∙_, ap₂}
+use mathlib.Core.List.{List}
+use mathlib.Core.Option.{Option, none, some}
+use Prim.Native.Nat.{ℕ}
+use lib.ListN.{length}
+use borrow.Author.Tests.{eq-eqb}
+use Rattle.basics.specs.Decide.{not-no}
+use Rattle.measures.specs.declared.Size.{Size}
+use Rattle.records.specs.Records.{Records}
+use Rattle.queries.specs.Queries.{readTests, rowOfTag, readAnswer, countAnswer}
+use Rattle.model.specs.Call.{read, count, Refusal, bad-length, counts}
+use Rattle.model.specs.Model.{refusal, tests, accepted, unless}
+use Rattle.model.specs.Tests.{refusal-next}
+use Rattle.agreement.specs.Agree.{Map, Alike, Effect, mapVerdict, mapAnswer, Step}
+use Rattle.view.specs.View.{view, Store}
+use Rattle.view.specs.Viewed.{view-alive, view-snapshots, view-used}
+
+alike-self : (z : Size) (m : Map) → Alike z m m
+alike-self z m = record { tags = λ t. refl; place = λ c l. refl; bytes = λ c l. refl }
+
+-- refused or not, nothing changes
+either-way : {A : Type 0} (v : Option Refusal) → A → unless v (λ r. A) A
+either-way none a = a
+either-way (some r) a = a
+
+module _ (z : Records) (places : List ℕ) (st : Store z places) where
+  -- with places of the right length the tests of read are the map's
+  read-verdict : (tag r : ℕ) → refusal (readTests z (length places) tag r) ≡ mapVerdict (z .size) (view z places) (read tag r)
+  unfolding readTests mapVerdict tests
+  read-verdict tag r = refusal-next bad-length _ (not-no (eq-eqb _ _ (st .size))) ∙ rw (view-alive z (st .sound) places tag)
+
+pub read-step : (z : Records) (places : List ℕ) → Store z places → (tag r : ℕ) → Step (z .size) (view z places) (read tag r) (readAnswer z places tag r) (view z places)
+unfolding readAnswer mapAnswer accepted rowOfTag view Effect
+read-step z places st tag r = record {
+  says = rw (read-verdict z places st tag r);
+  goes = either-way (mapVerdict (z .size) (view z places) (read tag r)) (alike-self (z .size) (view z places));
+}
+
+pub count-step : (z : Records) (places : List ℕ) → Store z places → Step (z .size) (view z places) count (countAnswer z) (view z places)
+unfolding mapAnswer mapVerdict tests accepted refusal Effect
+count-step z places st = record {
+  says = ap₂ counts (sym (view-used z (st .sound) places)) (sym (view-snapshots z (st .sound) places));
+  goes = alike-self (z .size) (view z places);
+}
