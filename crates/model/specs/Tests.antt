@@ -4,6 +4,7 @@ use mathlib.Core.Bool.{Bool, true, false, not, _&&_}
 use mathlib.Core.List.{[], _∷_}
 use mathlib.Core.Option.{Option, none, some}
 use Prim.Native.Nat.{ℕ, _≤_}
+use native.Mathlib.Omega.{arith}
 use lib.Dec.{leb}
 use borrow.Author.Tests.{leb-true, le-leb}
 use Rattle.basics.specs.Decide.{Decides, and-yes, both}
@@ -19,6 +20,12 @@ refusal-here r ts e = rw e
 pub refusal-next : {b : Bool} (r : Refusal) (ts : Tests) → b ≡ false → refusal ((b, r) ∷ ts) ≡ refusal ts
 unfolding refusal
 refusal-next r ts e = rw e
+
+-- a call that no test refuses has passed each
+pub refusal-passed : (b : Bool) (r : Refusal) (ts : Tests) → refusal ((b, r) ∷ ts) ≡ none → (b ≡ false) × (refusal ts ≡ none)
+unfolding refusal
+refusal-passed true r ts e = let z : _≡_ {A = ℕ} 0 1 = cc in absurd (omega arith)
+refusal-passed false r ts e = (refl, e)
 
 pub refusal-none : refusal [] ≡ none
 unfolding refusal

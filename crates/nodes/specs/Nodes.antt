@@ -26,6 +26,17 @@ module _ (t : Tree) where
   unfolding emptyNode isUsed
   empty-of m e = let s = first-some (λ n. not (isUsed t n)) 128 m e in (s .low, eqb-true _ 0 (not-false _ (not-true _ (s .passes))))
 
+  -- where fewer than 128 nodes are in use, there is one
+  pub empty-found : nodesUsed t < 128 → (m : ℕ) × (emptyNode t ≡ some m)
+  unfolding emptyNode
+  empty-found h = go (first (λ n. not (isUsed t n)) 128) refl
+    where
+      go : (o : Option ℕ) → first (λ n. not (isUsed t n)) 128 ≡ o → (m : ℕ) × (first (λ n. not (isUsed t n)) 128 ≡ some m)
+      go (some m) e = (m, e)
+      go none e =
+          let (n, l, x) = empty-node t h in
+          absurd (false≢true (sym (first-none (λ n. not (isUsed t n)) 128 e n l) ∙ not-yes (used-no t n x)))
+
   -- the search passes nodes in use
   pub record Passing (n : ℕ) : Type 0 where
     pub most : n ≤ 128
@@ -43,11 +54,11 @@ module _ (t : Tree) where
 
   -- and stops before the end where fewer than 128 are in use
   pub passing-over : nodesUsed t < 128 → Passing 128 → ⊥
+  unfolding emptyNode
   passing-over h p =
-      let (n, l, e) = empty-node t h in
-      let x : not (isUsed t n) ≡ false = first-none (λ k. not (isUsed t k)) 128 (p .none) n l in
-      let y : not (isUsed t n) ≡ true = not-yes (used-no t n e) in
-      false≢true (sym x ∙ y)
+      let (m, e) = empty-found h in
+      let z : _≡_ {A = ℕ} 0 1 = cc (p .none) in
+      omega arith
 
   -- the search for a child starts behind node 0
   pub child-start : (p : ℕ) → first (isChild t p) 1 ≡ none
