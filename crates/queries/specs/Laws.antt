@@ -22,7 +22,8 @@ use Rattle.reading.specs.Used.{place-low}
 use Rattle.model.specs.Call.{Refusal, bad-length, bad-row, unknown-tag, number}
 use Rattle.model.specs.Model.{Tests, refusal, unless}
 use Rattle.model.specs.Tests.{refusal-here, refusal-next, refusal-none}
-use Rattle.queries.specs.Queries.{Hands, readTests, rowOfTag, readAnswer, Inside}
+use Rattle.placing.specs.Placing.{Inside}
+use Rattle.queries.specs.Queries.{Hands, readTests, rowOfTag, readAnswer}
 
 module _ (z : Records) (places : List ℕ) (tag r : ℕ) where
   -- a refused read hands out the empty part

@@ -2,10 +2,10 @@
 use mathlib.Core.Path.{_≡_}
 use mathlib.Core.Bool.{not}
 use mathlib.Core.List.{List, [], _∷_}
-use Prim.Native.Nat.{ℕ, _+_, _*_, _≤_, _<_}
+use Prim.Native.Nat.{ℕ, _*_}
 use lib.Dec.{eqb, leb}
 use lib.ListN.{length}
-use Rattle.measures.specs.Measures.{beginsAt, bytesAt}
+use Rattle.measures.specs.Measures.{bytesAt}
 use Rattle.records.specs.Records.{Records, table, snapshots, used}
 use Rattle.records.specs.Reading.{lives, tagPlace}
 use Rattle.model.specs.Call.{bad-length, bad-row, unknown-tag, Answer, row, counts, refused, numberOf, rowOf, usedOf, snapshotsOf}
@@ -39,9 +39,3 @@ rowOfTag z places tag r = bytesAt (z .size .width) places (tagPlace z tag r)
 
 unfoldable pub readAnswer : Records → List ℕ → ℕ → ℕ → Answer
 readAnswer z places tag r = unless (refusal (readTests z (length places) tag r)) refused (row (rowOfTag z places tag r))
-
--- place p lies inside the lent places
-pub record Inside (places : List ℕ) (width p : ℕ) : Type 0 where
-  pub narrow : width ≤ 1024
-  pub low : p < 4096
-  pub within : beginsAt width p + width ≤ length places

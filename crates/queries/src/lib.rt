@@ -1,12 +1,10 @@
 // The two calls that change nothing: count the places in use and the snapshots alive; read a row.
 ghost use mathlib.Core.Path.{_≡_};
 ghost use mathlib.Core.List.{[]};
-ghost use Rattle.measures.specs.Measures.{bytesAt};
 ghost use Rattle.records.specs.Records.{recordsOf};
 ghost use Rattle.model.specs.Call.{unsound, refused};
 ghost use Rattle.soundness.specs.Judged.{Judged};
-ghost use Rattle.queries.specs.Queries.{Hands, Gives, Inside, countAnswer, readAnswer};
-use measures::Place;
+ghost use Rattle.queries.specs.Queries.{Hands, Gives, countAnswer, readAnswer};
 use measures::Row;
 use measures::Size;
 use records::Tree;
@@ -49,16 +47,6 @@ fn nothing<'a>(places: &'a [u8]) -> &'a [u8]
     &places[..0]
 }
 
-// The bytes of a place, where they lie.
-fn part<'a>(places: &'a [u8], width: usize, place: Place) -> &'a [u8]
-    requires { ⌜ Inside (now places) width (place .0) ⌝ }
-    ensures { λ s. ⌜ now s ≡ bytesAt width (now (places .entry)) (place .0) ⌝ }
-{
-    let from = measures::offset(width, place);
-    let to = from + width;
-    &places[from..to]
-}
-
 // Refusals: 20, 2, 3, 21. The row is handed out where it lies in the places; a refusal hands out their empty part.
 pub fn read<'a, 'b>(
     size: Size,
@@ -95,5 +83,5 @@ pub fn read<'a, 'b>(
     *answer = 0;
     let place = reading::lookup(&tree.state, &tree.tag, &tree.parent, rows, node, row, n, r);
     let width = size.width;
-    part(places, width, place)
+    placing::part(places, width, place)
 }

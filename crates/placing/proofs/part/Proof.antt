@@ -1,11 +1,11 @@
--- `queries::part` meets its contract. Assumes nothing.
+-- `placing::part` meets its contract. Assumes nothing.
 use borrow.Author.Needs.{needs}
 use Prim.Native.Nat.{_+_, _-_}
 use mathlib.Core.Path.{_≡_}
 use native.Mathlib.Omega.{arith}
 use Rattle.measures.specs.Measures.{bytesAt}
-use Rattle.queries.proofs.part.Statement.{statement}
-use Rattle.queries.proofs.part.Tie as tie
+use Rattle.placing.proofs.part.Statement.{statement}
+use Rattle.placing.proofs.part.Tie as tie
 
 offset-requires : tie.Need-offset-requires
 offset-requires c κs = search needs
