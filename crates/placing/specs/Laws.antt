@@ -2,7 +2,7 @@
 use mathlib.Core.Path.{_≡_, sym, _∙_, ap}
 use mathlib.Core.Logic.{_≢_, by-cases}
 use mathlib.Core.List.{List, _++_}
-use Prim.Native.Nat.{ℕ, _+_, _-_, _≤_, _<_}
+use Prim.Native.Nat.{ℕ, _+_, _-_, _*_, _≤_, _<_}
 use native.Mathlib.Decide.{ℕ-discrete, decLt}
 use native.Mathlib.Nat.{suc-mul, mul-le-mul-right}
 use native.Mathlib.Omega.{arith}
@@ -135,3 +135,11 @@ module _ (width : ℕ) (places : List ℕ) (p : ℕ) (i : Inside places width p)
 
   pub front-size : (rest : List ℕ) → length (take width (row ++ rest)) ≡ width
   front-size rest = length-take-le width (row ++ rest) (front-long rest)
+
+-- a place below P lies inside P × B bytes
+pub inside-of : (places : List ℕ) (width total p : ℕ) → width ≤ 1024 → total ≤ 4096 → length places ≡ total * width → p < total → Inside places width p
+inside-of places width total p w t e l = record {
+  narrow = w;
+  low = omega arith;
+  within = omega (arith, mul-le-mul-right width l, suc-mul p width);
+}

@@ -30,3 +30,7 @@ module _ {A : Type 0} {v : Option Refusal} {old new : A} where
 
   pub leaves-done : v ≡ none → {got : A} → got ≡ new → Leaves v old new 0 got
   leaves-done e h = record { numbered = rw e; left = rw e h }
+
+-- the same verdict and the same new thing, said otherwise
+pub leaves-same : {A : Type 0} {v v′ : Option Refusal} {old new new′ got : A} {answer : ℕ} → v ≡ v′ → new ≡ new′ → Leaves v′ old new′ answer got → Leaves v old new answer got
+leaves-same p q l = rw (p, q) l

@@ -1,0 +1,123 @@
+-- What the parts of a write ask and give: a node that stands ready, room for it, places inside the buffer, and the ways out. Assumes nothing.
+use mathlib.Core.Path.{_≡_, refl, sym, _∙_, ap}
+use mathlib.Core.Logic.{_≢_, by-cases}
+use mathlib.Core.Bool.{Bool, true, false, not, _&&_, false≢true}
+use mathlib.Core.List.{List, [], _∷_}
+use mathlib.Core.Option.{Option, none, some}
+use Prim.Native.Nat.{ℕ, _+_, _*_, _≤_, _<_}
+use native.Mathlib.Omega.{arith}
+use lib.Dec.{eqb, leb}
+use lib.ListN.{length}
+use borrow.Author.Tests.{eq-eqb, ne-eqb, le-leb, lt-leb}
+use Rattle.basics.specs.Decide.{Decides, at, and-yes, not-yes, not-no}
+use Rattle.basics.specs.CountLaws.{first-some, first-nothing, First}
+use Rattle.basics.specs.Count.{first}
+use Rattle.records.specs.declared.Tree.{Tree}
+use Rattle.records.specs.Records.{Records, table, InUse, Alive, Child, nodesUsed, used, version}
+use Rattle.records.specs.Reading.{place, isFound, lives}
+use Rattle.records.specs.Sound.{Sound}
+use Rattle.model.specs.Call.{Refusal, bad-length, bad-row, unknown-tag, places-full}
+use Rattle.model.specs.Model.{Tests, refusal}
+use Rattle.model.specs.Tests.{refusal-here, refusal-next, refusal-none}
+use Rattle.bound.specs.Bound.{node-bound-child}
+use Rattle.reading.specs.Lookup.{Looking}
+use Rattle.reading.specs.Used.{place-low}
+use Rattle.edits.specs.Edits.{split, FreeEntry}
+use Rattle.nodes.specs.Nodes.{emptyNode, firstChild, empty-of}
+use Rattle.measures.specs.Measures.{bytesAt}
+use Rattle.placing.specs.Placing.{Inside, putAt}
+use Rattle.placing.specs.Laws.{inside-of, put-size, bytes-size}
+use Rattle.sharing.specs.Sharing.{freeEntry, Sharing, SharedAt}
+use Rattle.sharing.specs.Laws.{free-some, full-used}
+use Rattle.writing.specs.Writing.{held, isSharer, sharedAt, sharedBy, fullTest, writeTests, writeVerdict, partedTree, partedNode, inPlace, toFree, savingBy, sharedTo, writtenAt, writtenBy, written, Writable}
+
+-- A node that stands ready
+
+module _ (t : Tree) (v : ℕ) where
+  pub leaf-tree : firstChild t v ≡ none → partedTree t v ≡ t
+  unfolding partedTree
+  leaf-tree e = rw e
+
+  pub leaf-node : firstChild t v ≡ none → partedNode t v ≡ v
+  unfolding partedNode
+  leaf-node e = rw e
+
+  pub parent-tree : (c m : ℕ) → firstChild t v ≡ some c → emptyNode t ≡ some m → partedTree t v ≡ split t v m
+  unfolding partedTree
+  parent-tree c m e h = rw (e, h)
+
+  pub parent-node : (c m : ℕ) → firstChild t v ≡ some c → emptyNode t ≡ some m → partedNode t v ≡ m
+  unfolding partedNode
+  parent-node c m e h = rw (e, h)
+
+  pub ready-low : v < 128 → partedNode t v < 128
+  unfolding partedNode
+  ready-low l = go (firstChild t v) (emptyNode t) refl
+    where
+      go : (o m : Option ℕ) → emptyNode t ≡ m → Rattle.writing.specs.Writing.partedNode′ v o m < 128
+      go none m e = l
+      go (some c) none e = l
+      go (some c) (some m) e = empty-of t m e .0
+
+-- What a writable row gives
+
+pub writable-at : {z : Records} {places : List ℕ} {v v′ r : ℕ} {bs : List ℕ} → v ≡ v′ → Writable z places v r bs → Writable z places v′ r bs
+writable-at e w = rw (← e) w
+
+module _ {z : Records} {places : List ℕ} {v r : ℕ} {bs : List ℕ} (w : Writable z places v r bs) where
+  pub used-node : InUse (z .tree) v
+  used-node = (w .alive .0, omega (arith, w .alive .1))
+
+  -- a snapshot that has a child finds an empty node
+  pub child-room : v ≢ 0 → (c : ℕ) → Child (z .tree) v c → nodesUsed (z .tree) < 128
+  child-room n c h =
+      let s = w .sound in
+      omega (arith, node-bound-child (z .tree) (s .states) (s .linked) (s .branching) v c (n, w .alive) h, s .tagged .most)
+
+  pub few-entries : z .size .rows + length (z .node) ≤ 4096
+  few-entries = let m = w .sound .measured in omega (arith, m .nodes, m .within .places .0, m .within .places .1)
+
+  pub narrow-row : r < 1024
+  narrow-row = omega (arith, w .low, w .sound .measured .within .rows .1)
+
+  pub row-entry : (i : ℕ) → FreeEntry z i → i < length (z .row)
+  row-entry i f = let m = w .sound .measured in omega (arith, f .0, m .nodes, m .rows)
+
+  pub entry-few : (i : ℕ) → FreeEntry z i → z .size .rows + i ≤ 4096
+  entry-few i f = omega (arith, f .0, few-entries)
+
+  -- the places that are written lie inside
+  inside : (p : ℕ) → p < z .size .places → Inside places (z .size .width) p
+  inside p l = let m = w .sound .measured .within in inside-of places (z .size .width) (z .size .places) p (m .width .1) (m .places .1) (w .size) l
+
+  pub inside-entry : (i : ℕ) → FreeEntry z i → Inside places (z .size .width) (z .size .rows + i)
+  inside-entry i f = let m = w .sound .measured in inside (z .size .rows + i) (omega (arith, f .0, m .nodes, m .within .places .0))
+
+  pub inside-home : Inside places (z .size .width) r
+  inside-home = inside r (omega (arith, w .low, w .sound .measured .within .places .0))
+
+  -- also after the old row was saved
+  pub inside-after : (i : ℕ) → FreeEntry z i → Inside (putAt (z .size .width) places (z .size .rows + i) (bytesAt (z .size .width) places r)) (z .size .width) r
+  inside-after i f =
+      let h = inside-home in
+      let e = inside-entry i f in
+      record { narrow = h .narrow; low = h .low; within = omega (arith, h .within, put-size (z .size .width) places (z .size .rows + i) (bytesAt (z .size .width) places r) (bytes-size (z .size .width) places r (h .within)) (e .within)) }
+
+  pub inside-place : Inside places (z .size .width) (place (z .tree) (table z) v r)
+  inside-place = inside _ (place-low z (w .sound) v r used-node (w .low))
+
+  pub sharing-of : Sharing (z .tree) (table z) v
+  sharing-of = record {
+    parents = λ k l e u. w .sound .linked .parent k e u;
+    used = used-node;
+    halves = w .sound .measured .rows ∙ sym (w .sound .measured .nodes);
+    few = few-entries;
+  }
+
+  pub looking-of : Looking (z .tree) (table z) v
+  looking-of = let s = sharing-of in record { climbs = record { parents = s .parents; used = s .used }; halves = s .halves; few = s .few }
+
+-- The four things together
+
+pub held-same : {t t′ : Tree} {n n′ r r′ p p′ : List ℕ} → t ≡ t′ → n ≡ n′ → r ≡ r′ → p ≡ p′ → held t n r p ≡ held t′ n′ r′ p′
+held-same a b c d = λ i. held (a i) (b i) (c i) (d i)
