@@ -22,9 +22,9 @@ pub fn part<'a>(places: &'a [u8], width: usize, place: Place) -> &'a [u8]
     requires { ⌜ Inside (now places) width (place .0) ⌝ }
     ensures { λ s. ⌜ now s ≡ bytesAt width (now (places .entry)) (place .0) ⌝ }
 {
-    let from = measures::offset(width, place);
-    let to = from + width;
-    &places[from..to]
+    let start = measures::offset(width, place);
+    let to = start + width;
+    &places[start..to]
 }
 
 // A row is written to a place; every other byte is as it was.
@@ -33,8 +33,8 @@ pub fn put(places: &mut [u8], width: usize, place: Place, bytes: &[u8])
     ensures { λ x. ⌜ now (places .exit) ≡ putAt width (now (places .entry)) (place .0) (now (bytes .entry)) ⌝ }
 {
     let from = measures::offset(width, place);
-    let to = from + width;
-    fill(&mut places[from..to], bytes);
+    let end = from + width;
+    fill(&mut places[from..end], bytes);
 }
 
 // The row in one place is written to another.

@@ -1,1 +1,6 @@
+pub mod SharedTags
 pub mod Snapshotted
+pub mod WroteMap
+pub mod WroteRecords
+pub mod WroteVerdict
+pub mod Wrote

@@ -7,8 +7,8 @@ use Rattle.placing.proofs.put.Tie as tie
 offset-requires : tie.Need-offset-requires
 offset-requires c κs = search needs
 
-add-to : tie.Need-add-to
-add-to c = search needs
+add-end : tie.Need-add-end
+add-end c = search needs
 
 sub-fill : tie.Need-sub-fill
 sub-fill c = search needs
@@ -35,7 +35,7 @@ put-spec =
     tie.close
     (tie.spec
     offset-requires
-    add-to
+    add-end
     sub-fill
     part-fill-start
     part-fill-end

@@ -1,0 +1,38 @@
+-- Whether a row is shared, node by node in the records, is what the place map says by tag. Assumes nothing.
+use mathlib.Core.Path.{_≡_, refl, sym, _∙_, ap}
+use mathlib.Core.Bool.{true}
+use mathlib.Core.List.{List}
+use mathlib.Core.Option.{some}
+use Prim.Native.Nat.{ℕ}
+use Rattle.basics.specs.Decide.{decides-true, holds, at}
+use Rattle.records.specs.Records.{Records, table, version}
+use Rattle.records.specs.Sound.{Sound}
+use Rattle.tree.specs.Nodes.{version-alive}
+use Rattle.edits.specs.Solve.{lives-node, version-node, version-lives, tag-place}
+use Rattle.model.specs.Model.{shared}
+use Rattle.agreement.specs.Members.{test-iff}
+use Rattle.agreement.specs.Counting.{shared-yes, shared-some}
+use Rattle.view.specs.View.{view}
+use Rattle.view.specs.Viewed.{view-alive}
+use Rattle.sharing.specs.Sharing.{SharedAt}
+use Rattle.writing.specs.Writing.{sharedAt}
+use Rattle.writing.specs.Ways.{shared-decides}
+
+-- the living nodes other than v are those of the tags other than its own
+pub shared-view : (z : Records) (s : Sound z) (places : List ℕ) (tag v r : ℕ) → version (z .tree) tag ≡ some v → shared (view z places .tags) (view z places .place) tag r ≡ sharedAt (z .tree) (table z) v r
+unfolding view
+shared-view z s places tag v r h = test-iff (λ e. decides-true (shared-decides (z .tree) (table z) v r) (node e), λ e. by-tag (holds _ (shared-decides (z .tree) (table z) v r) e))
+  where
+    node : shared (view z places .tags) (view z places .place) tag r ≡ true → SharedAt (z .tree) (table z) v r
+    node e =
+        let (u, a, d, p) = shared-some (view z places .tags) (view z places .place) tag r e in
+        let (n, k, b, g) = lives-node z u (sym (view-alive z s places u) ∙ a) in
+        (n, b, (λ x. d (sym g ∙ ap (at (z .tree .tag)) x ∙ version-alive (z .tree) tag v h .1)), sym (tag-place z u n r k) ∙ p ∙ tag-place z tag v r h)
+
+    by-tag : SharedAt (z .tree) (table z) v r → shared (view z places .tags) (view z places .place) tag r ≡ true
+    by-tag (n, a, d, p) =
+        let u = at (z .tree .tag) n in
+        let k = version-node (z .tree) (s .states) (s .tagged) n u a refl in
+        shared-yes (view z places .tags) (view z places .place) tag r u (view-alive z s places u ∙ version-lives z u n k)
+        (λ x. let y : version (z .tree) tag ≡ some n = rw x at k in d (cc))
+        (tag-place z u n r k ∙ p ∙ sym (tag-place z tag v r h))
