@@ -1,24 +1,24 @@
 -- Laws of the free entry: what is found is free, and none is found exactly where all places are in use. Then another version
 -- that reads the same place, searched node by node. Assumes nothing.
-use mathlib.Core.Path.{_≡_, sym, _∙_, ap}
+use mathlib.Core.Path.{_≡_, refl, sym, _∙_, ap}
 use mathlib.Core.Logic.{_≢_, _↔_, by-cases}
-use mathlib.Core.Bool.{Bool, true}
+use mathlib.Core.Bool.{Bool, true, false, not, _&&_, false≢true}
 use mathlib.Core.List.{List}
-use mathlib.Core.Option.{none, some}
+use mathlib.Core.Option.{Option, none, some}
 use Prim.Native.Nat.{ℕ, zero, suc, _+_, _≤_, _<_}
 use native.Mathlib.Decide.{ℕ-discrete}
 use native.Mathlib.Omega.{arith}
 use lib.Dec.{eqb}
 use lib.ListN.{length}
 use borrow.Author.Tests.{eq-eqb, ne-eqb, eqb-true, eqb-false}
-use Rattle.basics.specs.Decide.{at, not-yes, not-of}
+use Rattle.basics.specs.Decide.{Decides, at, and-yes, both, not-yes, not-of}
 use Rattle.basics.specs.Count.{sum, one, count, first}
 use Rattle.basics.specs.CountLaws.{sum-ones, one-yes, one-most, one-true, count-most, first-start, first-yes, first-no, first-more, first-some, first-none, first-nothing}
 use Rattle.records.specs.declared.Tree.{Tree}
 use Rattle.records.specs.Records.{Table, InUse, Alive, taken, used}
-use Rattle.records.specs.Reading.{place}
+use Rattle.records.specs.Reading.{place, isFound}
 use Rattle.reading.specs.Lookup.{Looking}
-use Rattle.sharing.specs.Sharing.{SharedAt, freeEntry, Sharing}
+use Rattle.sharing.specs.Sharing.{SharedAt, isSharer, sharedAt, freeEntry, Sharing}
 
 -- Free entries
 
@@ -116,3 +116,25 @@ module _ (t : Tree) (e : Table) (v r : ℕ) where
 
     pub not-shared-by : (p ≡ q → ⊥) → place t e n r ≢ place t e v r
     not-shared-by h z = h (x ∙ sym z ∙ sym y)
+
+-- The test answers whether the row is shared
+
+module _ (t : Tree) (e : Table) (v r : ℕ) where
+  sharer-yes : (n : ℕ) → Alive t n → n ≢ v → place t e n r ≡ place t e v r → isSharer t e v r n ≡ true
+  unfolding isSharer
+  sharer-yes n a h p = and-yes (eq-eqb _ 1 (a .1)) (and-yes (not-yes (ne-eqb n v h)) (eq-eqb _ _ p))
+
+  sharer-of : (n : ℕ) → n < 128 → isSharer t e v r n ≡ true → SharedAt t e v r
+  unfolding isSharer
+  sharer-of n l h =
+      let (a, f) = both (eqb (at (t .state) n) 1) (not (eqb n v) && eqb (place t e n r) (place t e v r)) h in
+      let (b, p) = both (not (eqb n v)) (eqb (place t e n r) (place t e v r)) f in
+      (n, (l, eqb-true _ 1 a), not-of n v b, eqb-true _ _ p)
+
+  pub shared-decides : Decides (sharedAt t e v r) (SharedAt t e v r)
+  unfolding sharedAt
+  shared-decides = go (first (isSharer t e v r) 128) refl
+    where
+      go : (o : Option ℕ) → first (isSharer t e v r) 128 ≡ o → Decides (isFound o) (SharedAt t e v r)
+      go (some n) h = let s = first-some (isSharer t e v r) 128 n h in sharer-of n (s .low) (s .passes)
+      go none h = λ (n, a, x, p). false≢true (sym (first-none (isSharer t e v r) 128 h n (a .0)) ∙ sharer-yes n a x p)

@@ -1,6 +1,7 @@
 -- When a row is shared, and the first free entry. Definitions only. Assumes nothing.
 use mathlib.Core.Path.{_≡_}
 use mathlib.Core.Logic.{_≢_}
+use mathlib.Core.Bool.{Bool, not, _&&_}
 use mathlib.Core.List.{List}
 use mathlib.Core.Option.{Option}
 use Prim.Native.Nat.{ℕ, _+_, _≤_}
@@ -10,12 +11,20 @@ use Rattle.basics.specs.Decide.{at}
 use Rattle.basics.specs.Count.{first}
 use Rattle.records.specs.declared.Tree.{Tree}
 use Rattle.records.specs.Records.{Table, InUse, Alive}
-use Rattle.records.specs.Reading.{place}
+use Rattle.records.specs.Reading.{place, isFound}
 use Rattle.tree.specs.Rules.{Parents}
 
 -- another living version reads row r from the same place as the version at node v
 abbrev pub SharedAt : Tree → Table → ℕ → ℕ → Type 0
 SharedAt t e v r = (n : ℕ) × Alive t n × (n ≢ v) × (place t e n r ≡ place t e v r)
+
+-- the same as a test
+
+unfoldable pub isSharer : Tree → Table → ℕ → ℕ → ℕ → Bool
+isSharer t e v r n = eqb (at (t .state) n) 1 && (not (eqb n v) && eqb (place t e n r) (place t e v r))
+
+unfoldable pub sharedAt : Tree → Table → ℕ → ℕ → Bool
+sharedAt t e v r = isFound (first (isSharer t e v r) 128)
 
 unfoldable pub freeEntry : List ℕ → Option ℕ
 freeEntry node = first (λ i. eqb (at node i) 0) (length node)

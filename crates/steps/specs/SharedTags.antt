@@ -14,9 +14,8 @@ use Rattle.agreement.specs.Members.{test-iff}
 use Rattle.agreement.specs.Counting.{shared-yes, shared-some}
 use Rattle.view.specs.View.{view}
 use Rattle.view.specs.Viewed.{view-alive}
-use Rattle.sharing.specs.Sharing.{SharedAt}
-use Rattle.writing.specs.Writing.{sharedAt}
-use Rattle.writing.specs.Ways.{shared-decides}
+use Rattle.sharing.specs.Sharing.{SharedAt, sharedAt}
+use Rattle.sharing.specs.Laws.{shared-decides}
 
 -- the living nodes other than v are those of the tags other than its own
 pub shared-view : (z : Records) (s : Sound z) (places : List ℕ) (tag v r : ℕ) → version (z .tree) tag ≡ some v → shared (view z places .tags) (view z places .place) tag r ≡ sharedAt (z .tree) (table z) v r

@@ -22,11 +22,11 @@ use Rattle.edits.specs.Writes.{save-row}
 use Rattle.tree.specs.Nodes.{version-alive}
 use Rattle.reading.specs.Used.{place-low}
 use Rattle.nodes.specs.Nodes.{firstChild, child-some}
-use Rattle.sharing.specs.Sharing.{freeEntry}
+use Rattle.sharing.specs.Sharing.{freeEntry, sharedAt}
 use Rattle.sharing.specs.Laws.{free-some}
 use Rattle.view.specs.View.{view, Store}
 use Rattle.view.specs.Viewed.{view-alive, view-home}
-use Rattle.writing.specs.Writing.{Held, held, sharedAt, writeVerdict, partedTree, partedNode, inPlace, toFree, saving as savingHeld, savingBy, sharedTo, writtenAt, written}
+use Rattle.writing.specs.Writing.{Held, held, writeVerdict, partedTree, partedNode, inPlace, toFree, saving as savingHeld, savingBy, sharedTo, writtenAt, written}
 use Rattle.steps.specs.SharedTags.{shared-view}
 use Rattle.steps.specs.WroteMap.{put-long, kept-alike, moved-alike, saved-long, saved-alike}
 use Rattle.steps.specs.WroteRecords.{free-found, free-low, free-unread, origin-tag, snapshot-tag, own-moved, root-child, parted-whole}

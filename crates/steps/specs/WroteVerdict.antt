@@ -15,9 +15,10 @@ use Rattle.model.specs.Model.{shared, placesUsed, Tests, refusal, tests}
 use Rattle.model.specs.Tests.{refusal-next, refusal-passed}
 use Rattle.agreement.specs.Agree.{mapVerdict}
 use Rattle.edits.specs.Solve.{lives-node}
+use Rattle.sharing.specs.Sharing.{sharedAt}
 use Rattle.view.specs.View.{view, Store}
 use Rattle.view.specs.Viewed.{view-alive, view-used}
-use Rattle.writing.specs.Writing.{sharedAt, fullTest, writeTests, writeVerdict}
+use Rattle.writing.specs.Writing.{fullTest, writeTests, writeVerdict}
 use Rattle.steps.specs.SharedTags.{shared-view}
 
 -- later tests may be compared as if the earlier ones did not hold

@@ -1,24 +1,14 @@
 -- What the parts of a write ask and give: a node that stands ready, room for it, places inside the buffer, and the ways out. Assumes nothing.
 use mathlib.Core.Path.{_≡_, refl, sym, _∙_, ap}
-use mathlib.Core.Logic.{_≢_, by-cases}
-use mathlib.Core.Bool.{Bool, true, false, not, _&&_, false≢true}
-use mathlib.Core.List.{List, [], _∷_}
+use mathlib.Core.Logic.{_≢_}
+use mathlib.Core.List.{List}
 use mathlib.Core.Option.{Option, none, some}
 use Prim.Native.Nat.{ℕ, _+_, _*_, _≤_, _<_}
 use native.Mathlib.Omega.{arith}
-use lib.Dec.{eqb, leb}
 use lib.ListN.{length}
-use borrow.Author.Tests.{eq-eqb, ne-eqb, le-leb, lt-leb}
-use Rattle.basics.specs.Decide.{Decides, at, and-yes, not-yes, not-no}
-use Rattle.basics.specs.CountLaws.{first-some, first-nothing, First}
-use Rattle.basics.specs.Count.{first}
 use Rattle.records.specs.declared.Tree.{Tree}
-use Rattle.records.specs.Records.{Records, table, InUse, Alive, Child, nodesUsed, used, version}
-use Rattle.records.specs.Reading.{place, isFound, lives}
-use Rattle.records.specs.Sound.{Sound}
-use Rattle.model.specs.Call.{Refusal, bad-length, bad-row, unknown-tag, places-full}
-use Rattle.model.specs.Model.{Tests, refusal}
-use Rattle.model.specs.Tests.{refusal-here, refusal-next, refusal-none}
+use Rattle.records.specs.Records.{Records, table, InUse, Alive, Child, nodesUsed}
+use Rattle.records.specs.Reading.{place}
 use Rattle.bound.specs.Bound.{node-bound-child}
 use Rattle.reading.specs.Lookup.{Looking}
 use Rattle.reading.specs.Used.{place-low}
@@ -27,9 +17,8 @@ use Rattle.nodes.specs.Nodes.{emptyNode, firstChild, empty-of}
 use Rattle.measures.specs.Measures.{bytesAt}
 use Rattle.placing.specs.Placing.{Inside, putAt}
 use Rattle.placing.specs.Laws.{inside-of, put-size, bytes-size}
-use Rattle.sharing.specs.Sharing.{freeEntry, Sharing, SharedAt}
-use Rattle.sharing.specs.Laws.{free-some, full-used}
-use Rattle.writing.specs.Writing.{held, isSharer, sharedAt, sharedBy, fullTest, writeTests, writeVerdict, partedTree, partedNode, inPlace, toFree, savingBy, sharedTo, writtenAt, writtenBy, written, Writable}
+use Rattle.sharing.specs.Sharing.{Sharing}
+use Rattle.writing.specs.Writing.{held, partedTree, partedNode, partedNode′, Writable}
 
 -- A node that stands ready
 
@@ -54,7 +43,7 @@ module _ (t : Tree) (v : ℕ) where
   unfolding partedNode
   ready-low l = go (firstChild t v) (emptyNode t) refl
     where
-      go : (o m : Option ℕ) → emptyNode t ≡ m → Rattle.writing.specs.Writing.partedNode′ v o m < 128
+      go : (o m : Option ℕ) → emptyNode t ≡ m → partedNode′ v o m < 128
       go none m e = l
       go (some c) none e = l
       go (some c) (some m) e = empty-of t m e .0

@@ -1,4 +1,4 @@
--- The ways out of a write: sharing decided, the last test, the effect by its cases, and the tests in a row. Assumes nothing.
+-- The ways out of a write: the last test, the effect by its cases, and the tests in a row. Assumes nothing.
 use mathlib.Core.Path.{_≡_, refl, sym, _∙_, ap}
 use mathlib.Core.Logic.{_≢_}
 use mathlib.Core.Bool.{Bool, true, false, not, _&&_, false≢true}
@@ -8,43 +8,19 @@ use Prim.Native.Nat.{ℕ, _+_, _*_, _≤_, _<_}
 use native.Mathlib.Omega.{arith}
 use lib.Dec.{eqb, leb}
 use lib.ListN.{length}
-use borrow.Author.Tests.{eq-eqb, ne-eqb, eqb-true, le-leb, lt-leb, leb-true}
-use Rattle.basics.specs.Decide.{Decides, at, and-yes, and-no, both, not-yes, not-no, not-of, decides-true, decides-false}
-use Rattle.basics.specs.Count.{count, first}
-use Rattle.basics.specs.CountLaws.{first-some, first-none, count-most}
-use Rattle.records.specs.declared.Tree.{Tree}
-use Rattle.records.specs.Records.{Table, Records, table, Alive, taken, used, version}
-use Rattle.records.specs.Reading.{place, isFound, lives}
+use borrow.Author.Tests.{eq-eqb, ne-eqb, le-leb, lt-leb, leb-true}
+use Rattle.basics.specs.Decide.{and-yes, and-no, not-yes, not-no}
+use Rattle.basics.specs.CountLaws.{count-most}
+use Rattle.records.specs.Records.{Table, Records, table, taken, used, version}
+use Rattle.records.specs.Reading.{lives}
 use Rattle.records.specs.Sound.{Sound}
 use Rattle.model.specs.Call.{Refusal, bad-length, bad-row, unknown-tag, places-full}
 use Rattle.model.specs.Model.{Tests, refusal}
 use Rattle.model.specs.Tests.{refusal-here, refusal-next, refusal-none}
 use Rattle.nodes.specs.Nodes.{firstChild}
-use Rattle.sharing.specs.Sharing.{freeEntry, SharedAt}
+use Rattle.sharing.specs.Sharing.{freeEntry, sharedAt}
 use Rattle.sharing.specs.Laws.{full-used}
-use Rattle.writing.specs.Writing.{Held, isSharer, sharedAt, sharedBy, fullTest, writeTests, writeVerdict, inPlace, toFree, savingBy, sharedTo, writtenAt, writtenBy, written, Writable}
-
--- Sharing
-
-module _ (t : Tree) (e : Table) (v r : ℕ) where
-  sharer-yes : (n : ℕ) → Alive t n → n ≢ v → place t e n r ≡ place t e v r → isSharer t e v r n ≡ true
-  unfolding isSharer
-  sharer-yes n a h p = and-yes (eq-eqb _ 1 (a .1)) (and-yes (not-yes (ne-eqb n v h)) (eq-eqb _ _ p))
-
-  sharer-of : (n : ℕ) → n < 128 → isSharer t e v r n ≡ true → SharedAt t e v r
-  unfolding isSharer
-  sharer-of n l h =
-      let (a, f) = both (eqb (at (t .state) n) 1) (not (eqb n v) && eqb (place t e n r) (place t e v r)) h in
-      let (b, p) = both (not (eqb n v)) (eqb (place t e n r) (place t e v r)) f in
-      (n, (l, eqb-true _ 1 a), not-of n v b, eqb-true _ _ p)
-
-  pub shared-decides : Decides (sharedAt t e v r) (SharedAt t e v r)
-  unfolding sharedAt
-  shared-decides = go (first (isSharer t e v r) 128) refl
-    where
-      go : (o : Option ℕ) → first (isSharer t e v r) 128 ≡ o → Decides (isFound o) (SharedAt t e v r)
-      go (some n) h = let s = first-some (isSharer t e v r) 128 n h in sharer-of n (s .low) (s .passes)
-      go none h = λ (n, a, x, p). false≢true (sym (first-none (isSharer t e v r) 128 h n (a .0)) ∙ sharer-yes n a x p)
+use Rattle.writing.specs.Writing.{sharedBy, fullTest, writeTests, writeVerdict, inPlace, toFree, savingBy, sharedTo, writtenAt, writtenBy, written, Writable}
 
 used-most : (e : Table) → used e ≤ e .rows + length (e .node)
 unfolding used

@@ -6,19 +6,17 @@ use mathlib.Core.Option.{Option, none, some}
 use Prim.Native.Nat.{ℕ, _+_, _*_, _<_}
 use lib.Dec.{eqb, leb}
 use lib.ListN.{length, set}
-use Rattle.basics.specs.Decide.{at}
-use Rattle.basics.specs.Count.{first}
 use Rattle.measures.specs.Measures.{bytesAt}
 use Rattle.records.specs.declared.Tree.{Tree}
-use Rattle.records.specs.Records.{Table, Records, table, Alive, used, version}
-use Rattle.records.specs.Reading.{place, isFound, lives}
+use Rattle.records.specs.Records.{Records, table, Alive, used, version}
+use Rattle.records.specs.Reading.{place, lives}
 use Rattle.records.specs.Sound.{Sound}
 use Rattle.model.specs.Call.{Refusal, bad-length, bad-row, unknown-tag, places-full}
 use Rattle.model.specs.Model.{Tests, refusal}
 use Rattle.edits.specs.Edits.{split}
 use Rattle.nodes.specs.Nodes.{emptyNode, firstChild}
 use Rattle.placing.specs.Placing.{putAt}
-use Rattle.sharing.specs.Sharing.{freeEntry}
+use Rattle.sharing.specs.Sharing.{freeEntry, sharedAt}
 
 -- all that a write may change
 pub record Held : Type 0 where
@@ -29,14 +27,6 @@ pub record Held : Type 0 where
 
 abbrev pub held : Tree → List ℕ → List ℕ → List ℕ → Held
 held tree node row places = record { tree = tree; node = node; row = row; places = places }
-
--- Sharing, as a test: another living version reads the row from the same place
-
-unfoldable pub isSharer : Tree → Table → ℕ → ℕ → ℕ → Bool
-isSharer t e v r n = eqb (at (t .state) n) 1 && (not (eqb n v) && eqb (place t e n r) (place t e v r))
-
-unfoldable pub sharedAt : Tree → Table → ℕ → ℕ → Bool
-sharedAt t e v r = isFound (first (isSharer t e v r) 128)
 
 abbrev pub sharedBy : Records → Option ℕ → ℕ → Bool
 sharedBy z none r = false

@@ -4,11 +4,11 @@ use mathlib.Core.Path.{_≡_, refl, sym, _∙_, ap}
 use mathlib.Core.Bool.{true, false}
 use mathlib.Core.Option.{some, none}
 use native.Mathlib.Omega.{arith}
-use Rattle.writing.specs.Ways.{shared-decides, unshared-passes, full-refused, free-passes, written-in-place, written-saving, written-to-free}
+use Rattle.writing.specs.Ways.{unshared-passes, full-refused, free-passes, written-in-place, written-saving, written-to-free}
 use Rattle.writing.specs.Laws.{writable-at, sharing-of, looking-of, inside-place, held-same}
-use Rattle.writing.specs.Writing.{sharedAt, inPlace}
-use Rattle.sharing.specs.Laws.{free-some}
-use Rattle.sharing.specs.Sharing.{freeEntry}
+use Rattle.writing.specs.Writing.{inPlace}
+use Rattle.sharing.specs.Laws.{free-some, shared-decides}
+use Rattle.sharing.specs.Sharing.{freeEntry, sharedAt}
 use Rattle.soundness.specs.Judged.{leaves-refused, leaves-done}
 use Rattle.model.specs.Call.{places-full}
 use Rattle.tree.specs.Rules.{found-at, found-missing}
