@@ -4,3 +4,5 @@ pub mod WroteMap
 pub mod WroteRecords
 pub mod WroteVerdict
 pub mod Wrote
+pub mod Calls
+pub mod Begins

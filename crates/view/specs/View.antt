@@ -12,7 +12,7 @@ use Rattle.records.specs.Records.{Records, isSnapshot}
 use Rattle.records.specs.Reading.{tagPlace}
 use Rattle.records.specs.Sound.{Sound}
 use Rattle.model.specs.Model.{Model}
-use Rattle.agreement.specs.Agree.{Map}
+use Rattle.agreement.specs.Agree.{Map, Agree}
 
 -- the tags of the snapshots at nodes below n
 unfoldable pub tagsBelow : Tree → ℕ → List ℕ
@@ -39,3 +39,8 @@ started z places = record {
   mark = λ c. tagPlace z (c .0) (c .1);
   next = z .size .places;
 }
+
+-- THE AGREEMENT of a store with the reference model, one relation for all calls: the same tags live, every row of every living version
+-- has the same bytes, two rows are read from one place exactly if they have one mark, and marks are below the next
+abbrev pub Agrees : Records → List ℕ → Model → Type 0
+Agrees z places m = Agree (z .size) (view z places) m

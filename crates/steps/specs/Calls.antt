@@ -1,0 +1,59 @@
+-- The step theorems, from the very promises of the functions that run: where a store agrees with the reference model before a call, what the
+-- call answers is what the model answers, and what it leaves agrees with the model after the call. Assumes nothing.
+use mathlib.Core.Path.{_≡_, refl, sym, _∙_, ap}
+use mathlib.Core.List.{List}
+use mathlib.Core.Option.{Option}
+use Prim.Native.Nat.{ℕ}
+use Rattle.records.specs.declared.Tree.{Tree}
+use Rattle.records.specs.Records.{Records, recordsOf}
+use Rattle.model.specs.Call.{Call, snapshot, read, write, count, Refusal, done, refused, Answer, numberOf, rowOf, usedOf, snapshotsOf}
+use Rattle.model.specs.Model.{Model, answer, after, unless}
+use Rattle.agreement.specs.Steps.{step-agree}
+use Rattle.soundness.specs.Judged.{Leaves}
+use Rattle.edits.specs.Edits.{withTree, Whole}
+use Rattle.queries.specs.Queries.{Hands, Gives, countAnswer, readAnswer}
+use Rattle.view.specs.View.{view, Store, Agrees}
+use Rattle.view.specs.Queried.{read-step, count-step}
+use Rattle.snapshots.specs.Taking.{snapshotVerdict, snapshotTree}
+use Rattle.writing.specs.Writing.{Held, held, writeVerdict, written}
+use Rattle.steps.specs.Snapshotted.{snapshotLeft, snapshot-step, snapshot-store, snapshot-whole}
+use Rattle.steps.specs.Wrote.{writeLeft, heldRecords, write-step, write-store, write-whole}
+
+-- a store that runs: sound, with all its bytes, its arrays whole, and in agreement with the model
+pub record Runs (z : Records) (places : List ℕ) (m : Model) : Type 0 where
+  pub store : Store z places
+  pub whole : Whole (z .tree)
+  pub agrees : Agrees z places m
+
+module _ (z : Records) (places : List ℕ) (m : Model) (run : Runs z places m) where
+  -- read: the number and the row are the model's, and nothing has changed
+  pub read-call : (tag r number : ℕ) (bytes : List ℕ) → Hands (readAnswer z places tag r) number bytes
+      → (number ≡ numberOf (answer (z .size) m (read tag r))) × (bytes ≡ rowOf (answer (z .size) m (read tag r))) × Runs z places (after (z .size) m (read tag r))
+  read-call tag r number bytes h =
+      let (e, a) = step-agree (z .size) (run .agrees) (read tag r) (read-step z places (run .store) tag r) in
+      (h .numbered ∙ ap numberOf e, h .handed ∙ ap rowOf e, record { store = run .store; whole = run .whole; agrees = a })
+
+  -- count: the number and the two counts
+  pub count-call : (number inUse alive : ℕ) → Gives (countAnswer z) number inUse alive
+      → (number ≡ numberOf (answer (z .size) m count)) × (inUse ≡ usedOf (answer (z .size) m count)) × (alive ≡ snapshotsOf (answer (z .size) m count)) × Runs z places (after (z .size) m count)
+  count-call number inUse alive g =
+      let (e, a) = step-agree (z .size) (run .agrees) count (count-step z places (run .store)) in
+      (g .numbered ∙ ap numberOf e, g .counted ∙ ap usedOf e, g .living ∙ ap snapshotsOf e, record { store = run .store; whole = run .whole; agrees = a })
+
+  -- snapshot: the number, and the tree that it leaves
+  pub snapshot-call : (source new number : ℕ) (tree : Tree) → Leaves (snapshotVerdict z source new) (z .tree) (snapshotTree (z .tree) source new) number tree
+      → (number ≡ numberOf (answer (z .size) m (snapshot source new))) × Runs (withTree z tree) places (after (z .size) m (snapshot source new))
+  snapshot-call source new number tree l =
+      let (e, a) = step-agree (z .size) (run .agrees) (snapshot source new) (snapshot-step z places (run .store) source new (run .whole)) in (
+        l .numbered ∙ ap numberOf e,
+        rw (l .left) (record { store = snapshot-store z places (run .store) source new (run .whole); whole = snapshot-whole z source new (run .whole); agrees = a }),
+      )
+
+  -- write: the number, and the records and places that it leaves
+  pub write-call : (tag r number : ℕ) (bs : List ℕ) (got : Held) → Leaves (writeVerdict z places tag r bs) (held (z .tree) (z .node) (z .row) places) (written z places tag r bs) number got
+      → (number ≡ numberOf (answer (z .size) m (write tag r bs))) × Runs (heldRecords (z .size) got) (got .places) (after (z .size) m (write tag r bs))
+  write-call tag r number bs got l =
+      let (e, a) = step-agree (z .size) (run .agrees) (write tag r bs) (write-step z places (run .store) (run .whole) tag r bs) in (
+        l .numbered ∙ ap numberOf e,
+        rw (l .left) (record { store = write-store z places (run .store) (run .whole) tag r bs; whole = write-whole z places (run .store) (run .whole) tag r bs; agrees = a }),
+      )
