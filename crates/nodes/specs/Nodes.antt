@@ -7,8 +7,8 @@ use Prim.Native.Nat.{ℕ, _+_, _≤_, _<_}
 use native.Mathlib.Omega.{arith}
 use borrow.Author.Tests.{not-true, not-false, eqb-true}
 use Rattle.basics.specs.Decide.{at, not-yes, not-no}
-use Rattle.basics.specs.Count.{first}
-use Rattle.basics.specs.CountLaws.{first-some, first-none, first-yes, first-no, first-more, first-start}
+use Rattle.basics.specs.Count.{count, first}
+use Rattle.basics.specs.CountLaws.{count-none, count-no, count-yes, first-some, first-none, first-yes, first-no, first-more, first-start}
 use Rattle.records.specs.declared.Tree.{Tree}
 use Rattle.records.specs.Records.{up, Child, isUsed, nodesUsed, isChild}
 use Rattle.tree.specs.Nodes.{used-yes, used-no, used-of, child-yes, child-of}
@@ -83,3 +83,19 @@ module _ (t : Tree) where
   pub child-none : (p : ℕ) → firstChild t p ≡ none → (c : ℕ) → Child t p c → ⊥
   unfolding firstChild
   child-none p e c h = false≢true (sym (first-none (isChild t p) 128 e c (h .1 .0)) ∙ child-yes t p c h)
+
+-- the count of children starts behind node 0 too
+module _ (t : Tree) (p : ℕ) where
+  pub children-start : count (isChild t p) 1 ≡ 0
+  unfolding isChild
+  children-start = count-no (isChild t p) 0 refl ∙ count-none (isChild t p)
+
+  pub children-more : (n : ℕ) → Child t p n → count (isChild t p) (n + 1) ≡ count (isChild t p) n + 1
+  children-more n c = count-yes (isChild t p) n (child-yes t p n c)
+
+  pub children-same : (n : ℕ) → n < 128 → (Child t p n → ⊥) → count (isChild t p) (n + 1) ≡ count (isChild t p) n
+  children-same n l h = count-no (isChild t p) n (go (isChild t p n) refl)
+    where
+      go : (b : Bool) → isChild t p n ≡ b → isChild t p n ≡ false
+      go true x = absurd (h (child-of t p n l x))
+      go false x = x

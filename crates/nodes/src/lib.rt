@@ -2,7 +2,7 @@
 ghost use mathlib.Core.Path.{_≡_};
 ghost use mathlib.Core.Option.{some};
 ghost use Prim.Native.Nat.{ℕ, _<_};
-ghost use Rattle.records.specs.Records.{treeOf, nodesUsed};
+ghost use Rattle.records.specs.Records.{treeOf, nodesUsed, children};
 ghost use Rattle.tree.specs.Rules.{foundOf};
 ghost use Rattle.edits.specs.Edits.{grown, hung, split};
 ghost use Rattle.nodes.specs.Nodes.{emptyNode, firstChild};
@@ -86,4 +86,21 @@ pub fn split(tree: Tree, v: usize, m: usize) -> Tree
     t.tag[m] = tag;
     t.parent[m] = v as u8;
     t
+}
+
+// How many children a node has.
+pub fn children<'a>(state: &'a [u8; 128], tag: &'a [u16; 128], parent: &'a [u8; 128], p: usize) -> usize
+    ensures { λ r. ⌜ r ≡ children (treeOf (now (state .entry)) (now (tag .entry)) (now (parent .entry))) p ⌝ }
+{
+    let mut sum: usize = 0;
+    let mut n: usize = 1;
+    while n < 128 {
+        if state[n] != 0 {
+            if wide(parent[n]) == p {
+                sum += 1;
+            }
+        }
+        n += 1;
+    }
+    sum
 }
