@@ -217,6 +217,11 @@ module _ (t : ℕ → Bool) where
       go none e = e
       go (some k) e = let s = first-some n k e in absurd (false≢true (sym (h k (s .low)) ∙ s .passes))
 
+pub first-same : (t u : ℕ → Bool) (n : ℕ) → ((k : ℕ) → k < n → t k ≡ u k) → first t n ≡ first u n
+unfolding first
+first-same t u zero h = refl
+first-same t u (suc n) h = rw (first-same t u n (λ k l. h k (omega arith)), h n (omega arith))
+
 -- Different numbers below a bound: m of them need a bound of at least m
 
 pub distinct-below : (f : ℕ → ℕ) (m n : ℕ) → ((i : ℕ) → i < m → f i < n) → ((i j : ℕ) → i < m → j < m → f i ≡ f j → i ≡ j) → m ≤ n

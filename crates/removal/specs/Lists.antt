@@ -1,12 +1,14 @@
 -- The lists that a delete leaves are those of Freed and Relabelled, and only they are. Assumes nothing.
 use mathlib.Core.Path.{_≡_, refl, sym, _∙_, ap, ap₂}
+use mathlib.Core.Logic.{by-cases}
 use mathlib.Core.Bool.{Bool, true, false, cond}
 use mathlib.Core.List.{List, [], _∷_}
-use Prim.Native.Nat.{ℕ, zero, suc, _+_, _<_}
+use Prim.Native.Nat.{ℕ, zero, suc, _+_, _≤_, _<_}
+use native.Mathlib.Decide.{ℕ-discrete}
 use native.Mathlib.Omega.{arith}
 use lib.Dec.{eqb}
-use lib.ListN.{length}
-use lib.Seq.{ext-getD}
+use lib.ListN.{length, set, length-set}
+use lib.Seq.{ext-getD, getD-set-same, getD-set-other}
 use Rattle.basics.specs.Decide.{at}
 use Rattle.records.specs.declared.Tree.{Tree}
 use Rattle.records.specs.Records.{Table, taken}
@@ -32,3 +34,33 @@ relabelled-is node x w = record {
   size = map-size (λ i n. cond (eqb n x) w n) 0 node;
   each = λ i l. map-at (λ i n. cond (eqb n x) w n) 0 node i l;
 }
+
+-- a list xs of which the numbers below i have been changed
+pub record Mapping (f : ℕ → ℕ → ℕ) (xs ys : List ℕ) (i : ℕ) : Type 0 where
+  pub most : i ≤ length xs
+  pub size : length ys ≡ length xs
+  pub past : (k : ℕ) → k < i → at ys k ≡ f k (at xs k)
+  pub rest : (k : ℕ) → i ≤ k → at ys k ≡ at xs k
+
+module _ (f : ℕ → ℕ → ℕ) (xs : List ℕ) where
+  pub mapping-start : Mapping f xs xs 0
+  mapping-start = record { most = omega arith; size = refl; past = λ k l. absurd (omega arith); rest = λ k l. refl }
+
+  pub mapping-set : (ys : List ℕ) (i y : ℕ) → i < length ys → Mapping f xs ys i → y ≡ f i (at xs i) → Mapping f xs (set ys i y) (i + 1)
+  mapping-set ys i y l m e = record {
+    most = omega (arith, m .size);
+    size = length-set ys i y ∙ m .size;
+    past = λ k h. by-cases (ℕ-discrete k i) (λ d. rw d (getD-set-same ys i y 0 l ∙ e)) (λ d. getD-set-other ys i k y 0 d ∙ m .past k (omega arith));
+    rest = λ k h. getD-set-other ys i k y 0 (omega arith) ∙ m .rest k (omega arith);
+  }
+
+  pub mapping-skip : (ys : List ℕ) (i : ℕ) → i < length ys → Mapping f xs ys i → at xs i ≡ f i (at xs i) → Mapping f xs ys (i + 1)
+  mapping-skip ys i l m e = record {
+    most = omega (arith, m .size);
+    size = m .size;
+    past = λ k h. by-cases (ℕ-discrete k i) (λ d. rw d (m .rest i (omega arith) ∙ e)) (λ d. m .past k (omega arith));
+    rest = λ k h. m .rest k (omega arith);
+  }
+
+  pub mapping-all : (ys : List ℕ) (i : ℕ) → length ys ≤ i → Mapping f xs ys i → ys ≡ mapAt f 0 xs
+  mapping-all ys i l m = map-only f xs ys (m .size) (λ k h. m .past k (omega (arith, m .size)))

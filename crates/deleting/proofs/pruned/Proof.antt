@@ -1,0 +1,55 @@
+-- `deleting::pruned` meets its contract. Assumes nothing.
+use borrow.Author.Needs.{needs}
+use mathlib.Core.Path.{_≡_, sym, _∙_}
+use Rattle.deleting.specs.Laws.{leaf-tree, leaf-node, parent-tree, parent-node}
+use Rattle.nodes.specs.Nodes.{firstChild}
+use Rattle.tree.specs.Rules.{found-at, found-missing}
+use Rattle.deleting.proofs.pruned.Statement.{statement}
+use Rattle.deleting.proofs.pruned.Tie as tie
+
+child-requires : tie.Need-child-requires
+child-requires c κs = search needs
+
+enum-told : tie.Need-enum-told
+enum-told c = search needs
+
+returns : tie.Need-returns
+returns c =
+    let k = c .before .before in
+    let a = k .before .before .before .before .before .args in
+    let e = found-at (firstChild (a .t1) (a .v)) _ (sym (c .enum-told .given .1) ∙ k .child .ensures) in
+    (sym (parent-tree _ _ _ e), sym (parent-node _ _ _ e))
+
+enum-told-2 : tie.Need-enum-told-2
+enum-told-2 c = search needs
+
+element-copy-out-wide : tie.Need-element-copy-out-wide
+element-copy-out-wide c = search needs
+
+wide-requires : tie.Need-wide-requires
+wide-requires c κs = search needs
+
+emptied-requires : tie.Need-emptied-requires
+emptied-requires c κs = search needs
+
+returns-2 : tie.Need-returns-2
+returns-2 c =
+    let w = c .before in
+    let q = w .before .before in
+    let k = q .before .before in
+    let a = k .before .before .before .before .before .args in
+    let e = found-missing (firstChild (a .t1) (a .v)) (sym (q .enum-told2 .given .1) ∙ k .child .ensures) in
+    (c .emptied .ensures ∙ sym (leaf-tree (a .t1) (a .v) e), w .wide .ensures ∙ sym (leaf-node (a .t1) (a .v) e))
+
+pub pruned-spec : {M : Type 1} → statement M
+pruned-spec =
+    tie.close
+    (tie.spec
+    child-requires
+    enum-told
+    returns
+    enum-told-2
+    element-copy-out-wide
+    wide-requires
+    emptied-requires
+    returns-2)

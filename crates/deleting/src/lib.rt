@@ -1,0 +1,198 @@
+// Deleting a snapshot: the places that only it reads are freed, wherever their entries stand; its node goes, or stays as a ghost for its children.
+ghost use mathlib.Core.Path.{_≡_};
+ghost use Prim.Native.Nat.{ℕ, _+_, _<_};
+ghost use lib.ListN.{length};
+ghost use Rattle.records.specs.Records.{treeOf, tableOf, recordsOf, table, InUse};
+ghost use Rattle.model.specs.Call.{number, unsound};
+ghost use Rattle.soundness.specs.Judged.{Judged, Leaves};
+ghost use Rattle.removal.specs.Removal.{ghosted, emptied, spliced, relabelled, Freed};
+ghost use Rattle.deleting.specs.Freeing.{freedPlace, Freeable};
+ghost use Rattle.deleting.specs.Deleting.{left, prunedTree, prunedNode, settledTree, settledNode, deletedAt, deleteVerdict, deleted, Deletable};
+use measures::Place;
+use measures::Row;
+use measures::Size;
+use records::Tree;
+use tree::Found;
+
+// An answer, and the tree of the records: as it was if refused.
+pub struct Removed {
+    pub answer: u8,
+    pub tree: Tree,
+}
+
+// A tree, and the node of it that may have one child too few.
+struct Stand {
+    tree: Tree,
+    node: usize,
+}
+
+fn wide(x: u8) -> usize
+    ensures { λ r. ⌜ r ≡ x ⌝ }
+{
+    x as usize
+}
+
+// Node v becomes a ghost.
+fn ghosted(tree: Tree, v: usize) -> Tree
+    requires { ⌜ v < 128 ⌝ }
+    ensures { λ t. ⌜ t ≡ ghosted tree v ⌝ }
+{
+    let mut t = tree;
+    t.state[v] = 2;
+    t.tag[v] = 0;
+    t
+}
+
+// Node x becomes empty.
+fn emptied(tree: Tree, x: usize) -> Tree
+    requires { ⌜ x < 128 ⌝ }
+    ensures { λ t. ⌜ t ≡ emptied tree x ⌝ }
+{
+    let mut t = tree;
+    t.state[x] = 0;
+    t.tag[x] = 0;
+    t.parent[x] = 0;
+    t
+}
+
+// Node x is taken out: its child w goes under its parent.
+fn spliced(tree: Tree, x: usize, w: usize) -> Tree
+    requires { ⌜ (x < 128) × (w < 128) ⌝ }
+    ensures { λ t. ⌜ t ≡ spliced tree x w ⌝ }
+{
+    let mut t = tree;
+    let p = t.parent[x];
+    t.parent[w] = p;
+    emptied(t, x)
+}
+
+// Every entry of node x becomes node w's.
+fn relabel(node: &mut [u8], x: usize, w: usize)
+    requires { ⌜ w < 128 ⌝ }
+    ensures { λ r. ⌜ now (node .exit) ≡ relabelled x w (now (node .entry)) ⌝ }
+{
+    let mut i: usize = 0;
+    while i < node.len() {
+        if wide(node[i]) == x {
+            node[i] = w as u8;
+        }
+        i += 1;
+    }
+}
+
+// A ghost without a child is taken away.
+fn pruned(tree: Tree, v: usize) -> Stand
+    requires { ⌜ v < 128 ⌝ }
+    ensures { λ s. ⌜ (s .tree ≡ prunedTree tree v) × (s .node ≡ prunedNode tree v) ⌝ }
+{
+    let found = nodes::child(&tree.state, &tree.tag, &tree.parent, v);
+    if let Found::At(_) = found {
+        return Stand { tree, node: v };
+    }
+    let above = wide(tree.parent[v]);
+    Stand {
+        tree: emptied(tree, v),
+        node: above,
+    }
+}
+
+// A ghost with one child is taken out.
+fn settled(tree: Tree, x: usize, node: &mut [u8]) -> Tree
+    requires { ⌜ x < 128 ⌝ }
+    ensures { λ t. ⌜ (t ≡ settledTree tree x) × (now (node .exit) ≡ settledNode tree x (now (node .entry))) ⌝ }
+{
+    if tree.state[x] != 2 {
+        return tree;
+    }
+    if nodes::children(&tree.state, &tree.tag, &tree.parent, x) != 1 {
+        return tree;
+    }
+    let found = nodes::child(&tree.state, &tree.tag, &tree.parent, x);
+    let Found::At(w) = found else {
+        return tree;
+    };
+    relabel(node, x, w);
+    spliced(tree, x, w)
+}
+
+// The entry of a place, if it is a snapshot place, becomes free.
+fn free_place(rows: usize, node: &mut [u8], row: &mut [u16], place: Place)
+    requires { ⌜ (place .0 < rows + length (now node)) × (length (now row) ≡ length (now node)) ⌝ }
+    ensures { λ x. ⌜ (now (node .exit) ≡ freedPlace rows (place .0) (now (node .entry))) × (now (row .exit) ≡ freedPlace rows (place .0) (now (row .entry))) ⌝ }
+{
+    if place.0 < rows {
+        return;
+    }
+    let i = place.0 - rows;
+    node[i] = 0;
+    row[i] = 0;
+}
+
+// The entries that only the version at node v reads become free, row by row.
+fn free_rows<'a>(
+    state: &'a [u8; 128],
+    tag: &'a [u16; 128],
+    parent: &'a [u8; 128],
+    rows: usize,
+    node: &mut [u8],
+    row: &mut [u16],
+    v: usize,
+)
+    requires { ⌜ Freeable (treeOf (now state) (now tag) (now parent)) (tableOf rows (now node) (now row)) v ⌝ }
+    ensures {
+        λ x. ⌜ Freed (treeOf (now (state .entry)) (now (tag .entry)) (now (parent .entry))) (tableOf rows (now (node .entry)) (now (row .entry))) v
+            (now (node .exit)) (now (row .exit)) ⌝
+    }
+{
+    let mut r: usize = 0;
+    while r < rows {
+        if !sharing::shared(state, tag, parent, rows, node, row, v, Row(r)) {
+            let place = reading::lookup(state, tag, parent, rows, node, row, v, Row(r));
+            free_place(rows, node, row, place);
+        }
+        r += 1;
+    }
+}
+
+// The version at node v goes, and with it what only it read.
+fn remove(size: Size, tree: Tree, node: &mut [u8], row: &mut [u16], v: usize) -> Tree
+    requires { ⌜ Deletable (recordsOf size tree (now node) (now row)) v ⌝ }
+    ensures {
+        λ t. ⌜ left t (now (node .exit)) (now (row .exit)) ≡ deletedAt (recordsOf size tree (now (node .entry)) (now (row .entry))) v ⌝
+    }
+{
+    let rows = size.rows;
+    free_rows(&tree.state, &tree.tag, &tree.parent, rows, node, row, v);
+    let stand = pruned(ghosted(tree, v), v);
+    let next = stand.tree;
+    let x = stand.node;
+    settled(next, x, node)
+}
+
+// Refusals: 20, 5, 21. A refusal changes nothing.
+pub fn delete(size: Size, tree: Tree, node: &mut [u8], row: &mut [u16], tag: u16) -> Removed
+    ensures {
+        λ w. ⌜ Judged (recordsOf size tree (now (node .entry)) (now (row .entry)))
+            (Leaves (deleteVerdict (recordsOf size tree (now (node .entry)) (now (row .entry))) tag)
+                (left tree (now (node .entry)) (now (row .entry)))
+                (deleted (recordsOf size tree (now (node .entry)) (now (row .entry))) tag)
+                (w .answer)
+                (left (w .tree) (now (node .exit)) (now (row .exit))))
+            ((w .answer ≡ number unsound) × (left (w .tree) (now (node .exit)) (now (row .exit)) ≡ left tree (now (node .entry)) (now (row .entry)))) ⌝
+    }
+{
+    if !soundness::sound(size, tree, node, row) {
+        return Removed { answer: 20, tree };
+    }
+    if tag == 0 {
+        return Removed { answer: 5, tree };
+    }
+    let found = tree::version(&tree.state, &tree.tag, &tree.parent, tag);
+    let Found::At(v) = found else {
+        return Removed { answer: 21, tree };
+    };
+    Removed {
+        answer: 0,
+        tree: remove(size, tree, node, row, v),
+    }
+}
