@@ -11,8 +11,9 @@ use Rattle.records.specs.declared.Tree.{Tree}
 use Rattle.records.specs.Records.{Records, table, Snapshot, up, children, version}
 use Rattle.records.specs.Reading.{lives}
 use Rattle.records.specs.Sound.{Sound}
-use Rattle.model.specs.Call.{Refusal, origin-tag, unknown-tag}
+use Rattle.model.specs.Call.{Refusal, origin-tag, unknown-tag, unsound, number}
 use Rattle.model.specs.Model.{Tests, refusal}
+use Rattle.soundness.specs.Judged.{Judged, Leaves}
 use Rattle.nodes.specs.Nodes.{firstChild}
 use Rattle.removal.specs.Removal.{ghosted, emptied, spliced, freedList, relabelled}
 
@@ -85,3 +86,9 @@ deleted z tag = deletedBy z (version (z .tree) tag)
 pub record Deletable (z : Records) (v : ℕ) : Type 0 where
   pub sound : Sound z
   pub snapshot : Snapshot (z .tree) v
+
+-- The promise of a delete: on sound records the tests' number and what is left, or all as it was; on others 20, and all as it was
+abbrev pub DeleteEnds : Records → ℕ → ℕ → Left → Type 0
+DeleteEnds z tag answer got =
+    Judged z (Leaves (deleteVerdict z tag) (left (z .tree) (z .node) (z .row)) (deleted z tag) answer got)
+    ((answer ≡ number unsound) × (got ≡ left (z .tree) (z .node) (z .row)))

@@ -3,11 +3,9 @@ ghost use mathlib.Core.Path.{_≡_};
 ghost use Prim.Native.Nat.{ℕ, _+_, _<_};
 ghost use lib.ListN.{length};
 ghost use Rattle.records.specs.Records.{treeOf, tableOf, recordsOf, table, InUse};
-ghost use Rattle.model.specs.Call.{number, unsound};
-ghost use Rattle.soundness.specs.Judged.{Judged, Leaves};
 ghost use Rattle.removal.specs.Removal.{ghosted, emptied, spliced, relabelled, Freed};
 ghost use Rattle.deleting.specs.Freeing.{freedPlace, Freeable};
-ghost use Rattle.deleting.specs.Deleting.{left, prunedTree, prunedNode, settledTree, settledNode, deletedAt, deleteVerdict, deleted, Deletable};
+ghost use Rattle.deleting.specs.Deleting.{left, prunedTree, prunedNode, settledTree, settledNode, deletedAt, Deletable, DeleteEnds};
 use measures::Place;
 use measures::Row;
 use measures::Size;
@@ -139,10 +137,8 @@ fn free_rows<'a>(
     v: usize,
 )
     requires { ⌜ Freeable (treeOf (now state) (now tag) (now parent)) (tableOf rows (now node) (now row)) v ⌝ }
-    ensures {
-        λ x. ⌜ Freed (treeOf (now (state .entry)) (now (tag .entry)) (now (parent .entry))) (tableOf rows (now (node .entry)) (now (row .entry))) v
-            (now (node .exit)) (now (row .exit)) ⌝
-    }
+    ensures { λ x. ⌜ Freed (treeOf (now (state .entry)) (now (tag .entry)) (now (parent .entry))) (tableOf rows (now (node .entry)) (now (row .entry))) v
+        (now (node .exit)) (now (row .exit)) ⌝ }
 {
     let mut r: usize = 0;
     while r < rows {
@@ -157,9 +153,7 @@ fn free_rows<'a>(
 // The version at node v goes, and with it what only it read.
 fn remove(size: Size, tree: Tree, node: &mut [u8], row: &mut [u16], v: usize) -> Tree
     requires { ⌜ Deletable (recordsOf size tree (now node) (now row)) v ⌝ }
-    ensures {
-        λ t. ⌜ left t (now (node .exit)) (now (row .exit)) ≡ deletedAt (recordsOf size tree (now (node .entry)) (now (row .entry))) v ⌝
-    }
+    ensures { λ t. ⌜ left t (now (node .exit)) (now (row .exit)) ≡ deletedAt (recordsOf size tree (now (node .entry)) (now (row .entry))) v ⌝ }
 {
     let rows = size.rows;
     free_rows(&tree.state, &tree.tag, &tree.parent, rows, node, row, v);
@@ -171,15 +165,7 @@ fn remove(size: Size, tree: Tree, node: &mut [u8], row: &mut [u16], v: usize) ->
 
 // Refusals: 20, 5, 21. A refusal changes nothing.
 pub fn delete(size: Size, tree: Tree, node: &mut [u8], row: &mut [u16], tag: u16) -> Removed
-    ensures {
-        λ w. ⌜ Judged (recordsOf size tree (now (node .entry)) (now (row .entry)))
-            (Leaves (deleteVerdict (recordsOf size tree (now (node .entry)) (now (row .entry))) tag)
-                (left tree (now (node .entry)) (now (row .entry)))
-                (deleted (recordsOf size tree (now (node .entry)) (now (row .entry))) tag)
-                (w .answer)
-                (left (w .tree) (now (node .exit)) (now (row .exit))))
-            ((w .answer ≡ number unsound) × (left (w .tree) (now (node .exit)) (now (row .exit)) ≡ left tree (now (node .entry)) (now (row .entry)))) ⌝
-    }
+    ensures { λ w. ⌜ DeleteEnds (recordsOf size tree (now (node .entry)) (now (row .entry))) tag (w .answer) (left (w .tree) (now (node .exit)) (now (row .exit))) ⌝ }
 {
     if !soundness::sound(size, tree, node, row) {
         return Removed { answer: 20, tree };

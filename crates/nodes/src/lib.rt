@@ -89,7 +89,12 @@ pub fn split(tree: Tree, v: usize, m: usize) -> Tree
 }
 
 // How many children a node has.
-pub fn children<'a>(state: &'a [u8; 128], tag: &'a [u16; 128], parent: &'a [u8; 128], p: usize) -> usize
+pub fn children<'a>(
+    state: &'a [u8; 128],
+    tag: &'a [u16; 128],
+    parent: &'a [u8; 128],
+    p: usize,
+) -> usize
     ensures { λ r. ⌜ r ≡ children (treeOf (now (state .entry)) (now (tag .entry)) (now (parent .entry))) p ⌝ }
 {
     let mut sum: usize = 0;

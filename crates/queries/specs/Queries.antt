@@ -8,7 +8,8 @@ use lib.ListN.{length}
 use Rattle.measures.specs.Measures.{bytesAt}
 use Rattle.records.specs.Records.{Records, table, snapshots, used}
 use Rattle.records.specs.Reading.{lives, tagPlace}
-use Rattle.model.specs.Call.{bad-length, bad-row, unknown-tag, Answer, row, counts, refused, numberOf, rowOf, usedOf, snapshotsOf}
+use Rattle.soundness.specs.Judged.{Judged}
+use Rattle.model.specs.Call.{bad-length, bad-row, unknown-tag, unsound, Answer, row, counts, refused, numberOf, rowOf, usedOf, snapshotsOf}
 use Rattle.model.specs.Model.{Tests, refusal, unless}
 
 -- the caller is handed an answer: its number and its row; its number and its two counts
@@ -39,3 +40,10 @@ rowOfTag z places tag r = bytesAt (z .size .width) places (tagPlace z tag r)
 
 unfoldable pub readAnswer : Records → List ℕ → ℕ → ℕ → Answer
 readAnswer z places tag r = unless (refusal (readTests z (length places) tag r)) refused (row (rowOfTag z places tag r))
+
+-- The promises of count and read: on sound records the answer above, on others 20
+abbrev pub CountEnds : Records → ℕ → ℕ → ℕ → Type 0
+CountEnds z number inUse alive = Judged z (Gives (countAnswer z) number inUse alive) (Gives (refused unsound) number inUse alive)
+
+abbrev pub ReadEnds : Records → List ℕ → ℕ → ℕ → ℕ → List ℕ → Type 0
+ReadEnds z places tag r number bytes = Judged z (Hands (readAnswer z places tag r) number bytes) (Hands (refused unsound) number bytes)

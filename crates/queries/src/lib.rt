@@ -2,9 +2,7 @@
 ghost use mathlib.Core.Path.{_≡_};
 ghost use mathlib.Core.List.{[]};
 ghost use Rattle.records.specs.Records.{recordsOf};
-ghost use Rattle.model.specs.Call.{unsound, refused};
-ghost use Rattle.soundness.specs.Judged.{Judged};
-ghost use Rattle.queries.specs.Queries.{Hands, Gives, countAnswer, readAnswer};
+ghost use Rattle.queries.specs.Queries.{CountEnds, ReadEnds};
 use measures::Row;
 use measures::Size;
 use records::Tree;
@@ -19,9 +17,7 @@ pub struct Counts {
 
 // Refusal: 20.
 pub fn count<'a>(size: Size, tree: Tree, node: &'a [u8], row: &'a [u16]) -> Counts
-    ensures { λ r. ⌜ Judged (recordsOf size tree (now (node .entry)) (now (row .entry)))
-        (Gives (countAnswer (recordsOf size tree (now (node .entry)) (now (row .entry)))) (r .answer) (r .used) (r .snapshots))
-        (Gives (refused unsound) (r .answer) (r .used) (r .snapshots)) ⌝ }
+    ensures { λ r. ⌜ CountEnds (recordsOf size tree (now (node .entry)) (now (row .entry))) (r .answer) (r .used) (r .snapshots) ⌝ }
 {
     if !soundness::sound(size, tree, node, row) {
         return Counts {
@@ -58,9 +54,7 @@ pub fn read<'a, 'b>(
     r: Row,
     answer: &mut u8,
 ) -> &'a [u8]
-    ensures { λ s. ⌜ Judged (recordsOf size tree (now (node .entry)) (now (row .entry)))
-        (Hands (readAnswer (recordsOf size tree (now (node .entry)) (now (row .entry))) (now (places .entry)) tag (r .0)) (now (answer .exit)) (now s))
-        (Hands (refused unsound) (now (answer .exit)) (now s)) ⌝ }
+    ensures { λ s. ⌜ ReadEnds (recordsOf size tree (now (node .entry)) (now (row .entry))) (now (places .entry)) tag (r .0) (now (answer .exit)) (now s) ⌝ }
 {
     if !soundness::sound(size, tree, node, row) {
         *answer = 20;

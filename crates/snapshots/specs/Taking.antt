@@ -1,4 +1,5 @@
 -- What a snapshot answers and leaves: document 01's tests after 20, and the new tree. Definitions only. Assumes nothing.
+use mathlib.Core.Path.{_≡_}
 use mathlib.Core.Bool.{not, cond}
 use mathlib.Core.List.{[], _∷_}
 use mathlib.Core.Option.{Option, none, some}
@@ -7,8 +8,9 @@ use lib.Dec.{eqb, leb}
 use Rattle.records.specs.declared.Tree.{Tree}
 use Rattle.records.specs.Records.{Records, snapshots, version}
 use Rattle.records.specs.Reading.{lives}
-use Rattle.model.specs.Call.{Refusal, zero-tag, unknown-tag, tag-alive, snapshots-full}
+use Rattle.model.specs.Call.{Refusal, zero-tag, unknown-tag, tag-alive, snapshots-full, unsound, number}
 use Rattle.model.specs.Model.{Tests, refusal}
+use Rattle.soundness.specs.Judged.{Judged, Leaves}
 use Rattle.edits.specs.Edits.{grown, hung}
 use Rattle.nodes.specs.Nodes.{emptyNode, firstChild}
 
@@ -44,3 +46,8 @@ treeBy t (some v) tag = treeAt t v tag
 -- the tree after a snapshot of the version with tag source, under tag new
 unfoldable pub snapshotTree : Tree → ℕ → ℕ → Tree
 snapshotTree t source new = treeBy t (version t source) new
+
+-- The promise of a snapshot: on sound records the tests' number and the new tree, or the tree as it was; on others 20, and the tree as it was
+abbrev pub SnapshotEnds : Records → ℕ → ℕ → ℕ → Tree → Type 0
+SnapshotEnds z source new answer tree =
+    Judged z (Leaves (snapshotVerdict z source new) (z .tree) (snapshotTree (z .tree) source new) answer tree) ((answer ≡ number unsound) × (tree ≡ z .tree))

@@ -2,9 +2,7 @@
 ghost use mathlib.Core.Path.{_≡_};
 ghost use Prim.Native.Nat.{ℕ, _<_};
 ghost use Rattle.records.specs.Records.{recordsOf, nodesUsed};
-ghost use Rattle.model.specs.Call.{number, unsound};
-ghost use Rattle.soundness.specs.Judged.{Judged, Leaves};
-ghost use Rattle.snapshots.specs.Taking.{treeAt, snapshotVerdict, snapshotTree};
+ghost use Rattle.snapshots.specs.Taking.{treeAt, SnapshotEnds};
 use measures::Size;
 use records::Tree;
 use tree::Found;
@@ -41,9 +39,7 @@ pub fn snapshot<'a>(
     source: u16,
     new: u16,
 ) -> Snapped
-    ensures { λ r. ⌜ Judged (recordsOf size tree (now (node .entry)) (now (row .entry)))
-        (Leaves (snapshotVerdict (recordsOf size tree (now (node .entry)) (now (row .entry))) source new) tree (snapshotTree tree source new) (r .answer) (r .tree))
-        ((r .answer ≡ number unsound) × (r .tree ≡ tree)) ⌝ }
+    ensures { λ r. ⌜ SnapshotEnds (recordsOf size tree (now (node .entry)) (now (row .entry))) source new (r .answer) (r .tree) ⌝ }
 {
     if !soundness::sound(size, tree, node, row) {
         return Snapped { answer: 20, tree };

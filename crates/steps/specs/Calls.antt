@@ -6,7 +6,7 @@ use mathlib.Core.Option.{Option}
 use Prim.Native.Nat.{ℕ}
 use Rattle.records.specs.declared.Tree.{Tree}
 use Rattle.records.specs.Records.{Records, recordsOf}
-use Rattle.model.specs.Call.{Call, snapshot, read, write, count, Refusal, done, refused, Answer, numberOf, rowOf, usedOf, snapshotsOf}
+use Rattle.model.specs.Call.{Call, snapshot, read, write, delete, count, Refusal, done, refused, Answer, numberOf, rowOf, usedOf, snapshotsOf}
 use Rattle.model.specs.Model.{Model, answer, after, unless}
 use Rattle.agreement.specs.Steps.{step-agree}
 use Rattle.soundness.specs.Judged.{Leaves}
@@ -17,6 +17,8 @@ use Rattle.view.specs.Queried.{read-step, count-step}
 use Rattle.snapshots.specs.Taking.{snapshotVerdict, snapshotTree}
 use Rattle.writing.specs.Writing.{Held, held, writeVerdict, written}
 use Rattle.steps.specs.Snapshotted.{snapshotLeft, snapshot-step, snapshot-store, snapshot-whole}
+use Rattle.deleting.specs.Deleting.{Left, left, deleteVerdict, deleted}
+use Rattle.steps.specs.Removed.{deleteLeft, leftRecords, delete-step, delete-store, delete-whole}
 use Rattle.steps.specs.Wrote.{writeLeft, heldRecords, write-step, write-store, write-whole}
 
 -- a store that runs: sound, with all its bytes, its arrays whole, and in agreement with the model
@@ -56,4 +58,13 @@ module _ (z : Records) (places : List ℕ) (m : Model) (run : Runs z places m) w
       let (e, a) = step-agree (z .size) (run .agrees) (write tag r bs) (write-step z places (run .store) (run .whole) tag r bs) in (
         l .numbered ∙ ap numberOf e,
         rw (l .left) (record { store = write-store z places (run .store) (run .whole) tag r bs; whole = write-whole z places (run .store) (run .whole) tag r bs; agrees = a }),
+      )
+
+  -- delete: the number, and the records that it leaves
+  pub delete-call : (tag number : ℕ) (got : Left) → Leaves (deleteVerdict z tag) (left (z .tree) (z .node) (z .row)) (deleted z tag) number got
+      → (number ≡ numberOf (answer (z .size) m (delete tag))) × Runs (leftRecords (z .size) got) places (after (z .size) m (delete tag))
+  delete-call tag number got l =
+      let (e, a) = step-agree (z .size) (run .agrees) (delete tag) (delete-step z places (run .store) (run .whole) tag) in (
+        l .numbered ∙ ap numberOf e,
+        rw (l .left) (record { store = delete-store z places (run .store) (run .whole) tag; whole = delete-whole z places (run .store) (run .whole) tag; agrees = a }),
       )

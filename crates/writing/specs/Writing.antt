@@ -11,8 +11,9 @@ use Rattle.records.specs.declared.Tree.{Tree}
 use Rattle.records.specs.Records.{Records, table, Alive, used, version}
 use Rattle.records.specs.Reading.{place, lives}
 use Rattle.records.specs.Sound.{Sound}
-use Rattle.model.specs.Call.{Refusal, bad-length, bad-row, unknown-tag, places-full}
+use Rattle.model.specs.Call.{Refusal, bad-length, bad-row, unknown-tag, places-full, unsound, number}
 use Rattle.model.specs.Model.{Tests, refusal}
+use Rattle.soundness.specs.Judged.{Judged, Leaves}
 use Rattle.edits.specs.Edits.{split}
 use Rattle.nodes.specs.Nodes.{emptyNode, firstChild}
 use Rattle.placing.specs.Placing.{putAt}
@@ -108,3 +109,9 @@ pub record Writable (z : Records) (places : List ℕ) (v r : ℕ) (bs : List ℕ
   pub alive : Alive (z .tree) v
   pub low : r < z .size .rows
   pub width : length bs ≡ z .size .width
+
+-- The promise of a write: on sound records the tests' number and what is written, or all as it was; on others 20, and all as it was
+abbrev pub WriteEnds : Records → List ℕ → ℕ → ℕ → List ℕ → ℕ → Held → Type 0
+WriteEnds z places tag r bs answer got =
+    Judged z (Leaves (writeVerdict z places tag r bs) (held (z .tree) (z .node) (z .row) places) (written z places tag r bs) answer got)
+    ((answer ≡ number unsound) × (got ≡ held (z .tree) (z .node) (z .row) places))

@@ -5,11 +5,10 @@ ghost use mathlib.Core.Option.{some};
 ghost use Prim.Native.Nat.{ℕ, _<_};
 ghost use lib.ListN.{length, set};
 ghost use Rattle.records.specs.Records.{recordsOf, nodesUsed, Child};
-ghost use Rattle.model.specs.Call.{number, unsound};
 ghost use Rattle.model.specs.Model.{refusal};
-ghost use Rattle.soundness.specs.Judged.{Judged, Leaves};
+ghost use Rattle.soundness.specs.Judged.{Leaves};
 ghost use Rattle.edits.specs.Edits.{FreeEntry};
-ghost use Rattle.writing.specs.Writing.{held, partedTree, partedNode, toFree, savingBy, fullTest, writtenAt, writeVerdict, written, Writable};
+ghost use Rattle.writing.specs.Writing.{held, partedTree, partedNode, toFree, savingBy, fullTest, writtenAt, Writable, WriteEnds};
 ghost use Rattle.nodes.specs.Nodes.{firstChild};
 use measures::Place;
 use measures::Row;
@@ -158,13 +157,8 @@ pub fn write(
     r: Row,
     bytes: &[u8],
 ) -> Written
-    ensures { λ w. ⌜ Judged (recordsOf size tree (now (node .entry)) (now (row .entry)))
-        (Leaves (writeVerdict (recordsOf size tree (now (node .entry)) (now (row .entry))) (now (places .entry)) tag (r .0) (now (bytes .entry)))
-        (held tree (now (node .entry)) (now (row .entry)) (now (places .entry)))
-        (written (recordsOf size tree (now (node .entry)) (now (row .entry))) (now (places .entry)) tag (r .0) (now (bytes .entry)))
-        (w .answer)
-        (held (w .tree) (now (node .exit)) (now (row .exit)) (now (places .exit))))
-        ((w .answer ≡ number unsound) × (held (w .tree) (now (node .exit)) (now (row .exit)) (now (places .exit)) ≡ held tree (now (node .entry)) (now (row .entry)) (now (places .entry)))) ⌝ }
+    ensures { λ w. ⌜ WriteEnds (recordsOf size tree (now (node .entry)) (now (row .entry))) (now (places .entry)) tag (r .0) (now (bytes .entry)) (w .answer)
+        (held (w .tree) (now (node .exit)) (now (row .exit)) (now (places .exit))) ⌝ }
 {
     if !soundness::sound(size, tree, node, row) {
         return Written { answer: 20, tree };

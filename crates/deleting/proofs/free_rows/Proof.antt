@@ -48,11 +48,13 @@ loop-again c =
     let k = c .before in
     let l = k .before .before .before in
     let s = l .before .before .before .before in
-    let d = l .before .loop .inv .1 in
-    (omega (arith, l .loop-test .taken), ⊎-elim
-    (λ w. rw (w .11, w .12, w .6 .ensures .0, w .6 .ensures .1) (free-alone _ _ _ (s .pre) _ _ _ d (l .loop-test .taken) (failed (k .shared .result) (k .shared .ensures) (w .0 .taken)) _ (w .3 .ensures)))
-    (λ w. rw (w .1, w .2) (free-shared _ _ _ (s .pre) _ _ _ d (l .loop-test .taken) (passed (k .shared .result) (k .shared .ensures) (w .0 .left))))
-    (c .if1 .came))
+    let d = l .before .loop .inv .1 in (
+      omega (arith, l .loop-test .taken),
+      ⊎-elim
+          (λ w. rw (w .11, w .12, w .6 .ensures .0, w .6 .ensures .1) (free-alone _ _ _ (s .pre) _ _ _ d (l .loop-test .taken) (failed (k .shared .result) (k .shared .ensures) (w .0 .taken)) _ (w .3 .ensures)))
+          (λ w. rw (w .1, w .2) (free-shared _ _ _ (s .pre) _ _ _ d (l .loop-test .taken) (passed (k .shared .result) (k .shared .ensures) (w .0 .left))))
+          (c .if1 .came),
+    )
 
 same-length : tie.Need-same-length Inv-loop μ-loop
 same-length c = c .before .loop .inv .1 .nodes

@@ -44,13 +44,17 @@ loop-again c =
     let a = l .before .before .args in
     let t = treeOf (a .state .now) (a .tag .now) (a .parent .now) in
     let n = l .before .loop .n in
-    let z : n ≢ 0 = λ e. omega (arith, v .0) in
-    (omega arith, omega arith, ⊎-elim (λ w. omega (arith, w .4)) (⊎-elim (λ w. omega (arith, w .4)) (λ w. omega (arith, w .1))) (c .if1 .came), ⊎-elim
-    (λ w. omega (arith, w .4, v .3, children-more t (a .p) n (z, (l .loop-test .taken, w .0 .taken), sym (w .2 .ensures) ∙ w .3 .taken)))
-    (⊎-elim
-    (λ w. omega (arith, w .4, v .3, children-same t (a .p) n (l .loop-test .taken) (λ h. w .3 .left (w .2 .ensures ∙ h .2))))
-    (λ w. omega (arith, w .1, v .3, children-same t (a .p) n (l .loop-test .taken) (λ h. h .1 .1 (w .0 .left)))))
-    (c .if1 .came))
+    let z : n ≢ 0 = λ e. omega (arith, v .0) in (
+      omega arith,
+      omega arith,
+      ⊎-elim (λ w. omega (arith, w .4)) (⊎-elim (λ w. omega (arith, w .4)) (λ w. omega (arith, w .1))) (c .if1 .came),
+      ⊎-elim
+          (λ w. omega (arith, w .4, v .3, children-more t (a .p) n (z, (l .loop-test .taken, w .0 .taken), sym (w .2 .ensures) ∙ w .3 .taken)))
+          (⊎-elim
+          (λ w. omega (arith, w .4, v .3, children-same t (a .p) n (l .loop-test .taken) (λ h. w .3 .left (w .2 .ensures ∙ h .2))))
+          (λ w. omega (arith, w .1, v .3, children-same t (a .p) n (l .loop-test .taken) (λ h. h .1 .1 (w .0 .left)))))
+          (c .if1 .came),
+    )
 
 returns : tie.Need-returns Inv-loop μ-loop
 unfolding children
