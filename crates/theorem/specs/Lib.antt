@@ -1,2 +1,4 @@
 pub mod Trace
 pub mod Theorem
+pub mod Cases
+pub mod Consequences

@@ -1,0 +1,167 @@
+-- What follows from the reference model: when a write and a snapshot are accepted, what a delete leaves alone, that 20 is never answered, and that
+-- a version reads as it was left. Assumes nothing.
+use mathlib.Core.Path.{_≡_, refl, sym, _∙_, ap}
+use mathlib.Core.Logic.{_≢_, _↔_}
+use mathlib.Core.Bool.{Bool, true, false, not, _&&_, false≢true}
+use mathlib.Core.List.{List, [], _∷_}
+use mathlib.Core.Option.{Option, none, some}
+use Prim.Native.Nat.{ℕ, _≤_, _<_}
+use native.Mathlib.Omega.{arith}
+use lib.Dec.{leb}
+use lib.ListN.{length}
+use borrow.Author.Tests.{eq-eqb, ne-eqb, eqb-false, le-leb, lt-leb, leb-true, leb-false, not-false}
+use Rattle.basics.specs.Decide.{and-yes, both}
+use Rattle.measures.specs.declared.Size.{Size}
+use Rattle.model.specs.Call.{Call, snapshot, read, write, delete, count, Refusal, bad-size, bad-length, bad-row, zero-tag, origin-tag, unsound, unknown-tag, tag-alive, snapshots-full, places-full, number, Answer, done, row, refused, numberOf}
+use Rattle.model.specs.Model.{Cell, Model, alive, snapshotsAlive, shared, placesUsed, Tests, orElse, refusal, tests, accepted, unless, adopt, effect, verdict, answer, after, final}
+use Rattle.model.specs.Tests.{refusal-next, refusal-none}
+use Rattle.agreement.specs.Living.{alive-stays}
+use Rattle.agreement.specs.Updates.{put-off}
+use Rattle.agreement.specs.Verdicts.{none-passed}
+
+-- Numbers: a refusal has one above 0, so an answer of 0 is no refusal
+
+positive : (r : Refusal) → 0 < number r
+positive bad-size = omega arith
+positive bad-length = omega arith
+positive bad-row = omega arith
+positive zero-tag = omega arith
+positive origin-tag = omega arith
+positive unsound = omega arith
+positive unknown-tag = omega arith
+positive tag-alive = omega arith
+positive snapshots-full = omega arith
+positive places-full = omega arith
+
+not-refused : (v : Option Refusal) (a : Answer) → numberOf (unless v refused a) ≡ 0 → v ≡ none
+not-refused none a e = refl
+not-refused (some r) a e = absurd (omega (arith, positive r))
+
+-- the last test of a write alone
+full-iff : (b : Bool) → numberOf (unless (refusal ((b, places-full) ∷ [])) refused done) ≡ 24 ↔ b ≡ true
+unfolding refusal
+full-iff true = (λ e. refl, λ e. refl)
+full-iff false = (λ e. absurd (omega arith), λ e. absurd (false≢true e))
+
+full-not : (b : Bool) → (b ≡ true → ⊥) → numberOf (unless (refusal ((b, places-full) ∷ [])) refused done) ≡ 0
+unfolding refusal
+full-not true h = absurd (h refl)
+full-not false h = refl
+
+module _ (z : Size) (m : Model) where
+  -- the test for want of a place
+  abbrev wants : ℕ → ℕ → Bool
+  wants t r = shared (m .snapshots) (m .mark) t r && leb (z .places) (placesUsed (z .rows) (m .snapshots) (m .mark))
+
+  wants-iff : (t r : ℕ) → wants t r ≡ true ↔ ((shared (m .snapshots) (m .mark) t r ≡ true) × (z .places ≤ placesUsed (z .rows) (m .snapshots) (m .mark)))
+  wants-iff t r = (
+    λ e. let (x, y) = both (shared (m .snapshots) (m .mark) t r) (leb (z .places) (placesUsed (z .rows) (m .snapshots) (m .mark))) e in (x, leb-true _ _ y),
+    λ h. and-yes (h .0) (le-leb _ _ (h .1)),
+  )
+
+  -- a write that passes the tests before it has that one left
+  write-left : (t r : ℕ) (bs : List ℕ) → length bs ≡ z .width → r < z .rows → alive (m .snapshots) t ≡ true → verdict z m (write t r bs) ≡ refusal ((wants t r, places-full) ∷ [])
+  unfolding verdict tests
+  write-left t r bs l k a =
+      refusal-next _ _ (ap not (eq-eqb (length bs) (z .width) l)) ∙ refusal-next _ _ (lt-leb (z .rows) r k) ∙ refusal-next _ _ (ap not a)
+
+  -- a write that passes the tests before it is refused for want of a place exactly if the row is shared and every place is in use
+  pub write-full : (t r : ℕ) (bs : List ℕ) → length bs ≡ z .width → r < z .rows → alive (m .snapshots) t ≡ true
+      → (numberOf (answer z m (write t r bs)) ≡ 24) ↔ ((shared (m .snapshots) (m .mark) t r ≡ true) × (z .places ≤ placesUsed (z .rows) (m .snapshots) (m .mark)))
+  unfolding answer accepted
+  write-full t r bs l k a = rw (write-left t r bs l k a)
+      (λ e. wants-iff t r .0 (full-iff (wants t r) .0 e), λ h. full-iff (wants t r) .1 (wants-iff t r .1 h))
+
+  -- and otherwise it is accepted
+  pub write-accepted : (t r : ℕ) (bs : List ℕ) → length bs ≡ z .width → r < z .rows → alive (m .snapshots) t ≡ true
+      → ((shared (m .snapshots) (m .mark) t r ≡ true) × (z .places ≤ placesUsed (z .rows) (m .snapshots) (m .mark)) → ⊥) → numberOf (answer z m (write t r bs)) ≡ 0
+  unfolding answer accepted
+  write-accepted t r bs l k a h = rw (write-left t r bs l k a) (full-not (wants t r) (λ e. h (wants-iff t r .0 e)))
+
+  -- what a snapshot that no test refuses has passed, and back
+  snapshot-none : (s t : ℕ) → t ≢ 0 → alive (m .snapshots) s ≡ true → alive (m .snapshots) t ≡ false → snapshotsAlive (m .snapshots) < 64 → verdict z m (snapshot s t) ≡ none
+  unfolding verdict tests
+  snapshot-none s t o a b n =
+      refusal-next _ _ (ne-eqb t 0 o) ∙ refusal-next _ _ (ap not a) ∙ refusal-next _ _ b ∙ refusal-next _ _ (lt-leb 64 (snapshotsAlive (m .snapshots)) n) ∙ refusal-none
+
+  snapshot-of : (s t : ℕ) → verdict z m (snapshot s t) ≡ none → (t ≢ 0) × (alive (m .snapshots) s ≡ true) × (alive (m .snapshots) t ≡ false) × (snapshotsAlive (m .snapshots) < 64)
+  unfolding verdict tests
+  snapshot-of s t e =
+      let p = none-passed (tests z (m .snapshots) (m .mark) (snapshot s t)) e in
+      (eqb-false t 0 (p .0), not-false _ (p .1 .0), p .1 .1 .0, leb-false _ _ (p .1 .1 .1 .0))
+
+  -- a snapshot is accepted exactly if its tag is not 0 and not alive, its source lives, and fewer than 64 snapshots are alive
+  pub snapshot-accepted : (s t : ℕ) → (numberOf (answer z m (snapshot s t)) ≡ 0) ↔ ((t ≢ 0) × (alive (m .snapshots) s ≡ true) × (alive (m .snapshots) t ≡ false) × (snapshotsAlive (m .snapshots) < 64))
+  unfolding answer accepted
+  snapshot-accepted s t = (
+    λ e. snapshot-of s t (not-refused (verdict z m (snapshot s t)) done e),
+    λ h. rw (snapshot-none s t (h .0) (h .1) (h .2) (h .3)),
+  )
+
+  -- a delete changes no other version's rows
+  pub delete-others : (t u r : ℕ) → u ≢ t → (after z m (delete t) .bytes (u, r) ≡ m .bytes (u, r)) × (alive (after z m (delete t) .snapshots) u ≡ alive (m .snapshots) u)
+  unfolding after effect
+  delete-others t u r h = go (verdict z m (delete t))
+    where
+      go : (v : Option Refusal) → (unless v (λ x. m) (effect m (delete t)) .bytes (u, r) ≡ m .bytes (u, r)) × (alive (unless v (λ x. m) (effect m (delete t)) .snapshots) u ≡ alive (m .snapshots) u)
+      go none = (refl, alive-stays (m .snapshots) t u h)
+      go (some x) = (refl, refl)
+
+-- tests whose refusals have other numbers than 20, and the answer after them
+abbrev Other : Tests → Type 0
+Other [] = Unit {0}
+Other (t ∷ ts) = (number (t .1) ≢ 20) × Other ts
+
+other : (ts : Tests) (a : Answer) → Other ts → numberOf a ≢ 20 → numberOf (unless (refusal ts) refused a) ≢ 20
+unfolding refusal
+other [] a o h = h
+other (t ∷ ts) a o h = go (t .0) (other ts a (o .1) h)
+  where
+    go : (b : Bool) → numberOf (unless (refusal ts) refused a) ≢ 20 → numberOf (unless (orElse b (t .1) (refusal ts)) refused a) ≢ 20
+    go true k = o .0
+    go false k = k
+
+-- 20 is never answered
+pub never-unsound : (z : Size) (m : Model) (c : Call) → numberOf (answer z m c) ≢ 20
+unfolding answer verdict tests accepted
+never-unsound z m (snapshot s t) = other (tests z (m .snapshots) (m .mark) (snapshot s t)) done (omega arith, (omega arith, (omega arith, (omega arith, tt)))) (omega arith)
+never-unsound z m (read t r) = other (tests z (m .snapshots) (m .mark) (read t r)) (row (m .bytes (t, r))) (omega arith, (omega arith, tt)) (omega arith)
+never-unsound z m (write t r bs) = other (tests z (m .snapshots) (m .mark) (write t r bs)) done (omega arith, (omega arith, (omega arith, (omega arith, tt)))) (omega arith)
+never-unsound z m (delete t) = other (tests z (m .snapshots) (m .mark) (delete t)) done (omega arith, (omega arith, tt)) (omega arith)
+never-unsound z m count = other [] (accepted z (m .snapshots) (m .mark) (m .bytes) count) tt (omega arith)
+
+-- a call that neither writes a version, deletes it nor takes its tag
+abbrev pub Spares : ℕ → Call → Type 0
+Spares u (snapshot s t) = t ≢ u
+Spares u (read t r) = Unit {0}
+Spares u (write t r bs) = t ≢ u
+Spares u (delete t) = t ≢ u
+Spares u count = Unit {0}
+
+-- every call of a list
+abbrev pub AllSpare : ℕ → List Call → Type 0
+AllSpare u [] = Unit {0}
+AllSpare u (c ∷ cs) = Spares u c × AllSpare u cs
+
+-- what such a call does, and the model after it, have the version's rows as they were
+effect-spares : (m : Model) (u r : ℕ) (c : Call) → Spares u c → effect m c .bytes (u, r) ≡ m .bytes (u, r)
+unfolding effect adopt
+effect-spares m u r (snapshot s t) h = rw (ne-eqb u t (λ e. h (sym e)))
+effect-spares m u r (read t k) h = refl
+effect-spares m u r (write t k bs) h = put-off (t, k) bs (m .bytes) (λ e. h (sym (ap (λ (c : Cell). c .0) e)))
+effect-spares m u r (delete t) h = refl
+effect-spares m u r count h = refl
+
+after-spares : (z : Size) (m : Model) (u r : ℕ) (c : Call) → Spares u c → after z m c .bytes (u, r) ≡ m .bytes (u, r)
+unfolding after
+after-spares z m u r c h = go (verdict z m c)
+  where
+    go : (v : Option Refusal) → unless v (λ x. m) (effect m c) .bytes (u, r) ≡ m .bytes (u, r)
+    go none = effect-spares m u r c h
+    go (some x) = refl
+
+-- a version reads as when it was last changed: calls that neither write it, delete it nor take its tag leave its rows
+pub reads-as-left : (z : Size) (u : ℕ) (cs : List Call) (m : Model) → AllSpare u cs → (r : ℕ) → final z m cs .bytes (u, r) ≡ m .bytes (u, r)
+unfolding final
+reads-as-left z u [] m h r = refl
+reads-as-left z u (c ∷ cs) m h r = reads-as-left z u cs (after z m c) (h .1) r ∙ after-spares z m u r c (h .0)
