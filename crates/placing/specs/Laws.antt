@@ -143,3 +143,9 @@ inside-of places width total p w t e l = record {
   low = omega arith;
   within = omega (arith, mul-le-mul-right width l, suc-mul p width);
 }
+
+-- a row saved, and then another written in its place
+pub renewed : (width : ℕ) (places saved written : List ℕ) (own spare : ℕ) (bs : List ℕ)
+    → saved ≡ putAt width places spare (bytesAt width places own) → written ≡ putAt width saved own bs
+    → written ≡ putAt width (putAt width places spare (bytesAt width places own)) own bs
+renewed width places saved written own spare bs e f = f ∙ rw e

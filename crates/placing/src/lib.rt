@@ -46,3 +46,12 @@ pub fn copy(places: &mut [u8], width: usize, from: Place, to: Place)
     fill(&mut old[..width], part(places, width, from));
     put(places, width, to, &old[..width]);
 }
+
+// The row in a place is saved in another, and then new bytes are written to the first.
+pub fn renew(places: &mut [u8], width: usize, own: Place, spare: Place, bytes: &[u8])
+    requires { ⌜ Inside (now places) width (own .0) × Inside (now places) width (spare .0) × (length (now bytes) ≡ width) ⌝ }
+    ensures { λ x. ⌜ now (places .exit) ≡ putAt width (putAt width (now (places .entry)) (spare .0) (bytesAt width (now (places .entry)) (own .0))) (own .0) (now (bytes .entry)) ⌝ }
+{
+    copy(places, width, own, spare);
+    put(places, width, own, bytes);
+}

@@ -14,9 +14,8 @@ use Rattle.reading.specs.Lookup.{Looking}
 use Rattle.reading.specs.Used.{place-low}
 use Rattle.edits.specs.Edits.{split, FreeEntry}
 use Rattle.nodes.specs.Nodes.{emptyNode, firstChild, empty-of}
-use Rattle.measures.specs.Measures.{bytesAt}
-use Rattle.placing.specs.Placing.{Inside, putAt}
-use Rattle.placing.specs.Laws.{inside-of, put-size, bytes-size}
+use Rattle.placing.specs.Placing.{Inside}
+use Rattle.placing.specs.Laws.{inside-of}
 use Rattle.sharing.specs.Sharing.{Sharing}
 use Rattle.writing.specs.Writing.{held, partedTree, partedNode, partedNode′, Writable}
 
@@ -84,13 +83,6 @@ module _ {z : Records} {places : List ℕ} {v r : ℕ} {bs : List ℕ} (w : Writ
 
   pub inside-home : Inside places (z .size .width) r
   inside-home = inside r (omega (arith, w .low, w .sound .measured .within .places .0))
-
-  -- also after the old row was saved
-  pub inside-after : (i : ℕ) → FreeEntry z i → Inside (putAt (z .size .width) places (z .size .rows + i) (bytesAt (z .size .width) places r)) (z .size .width) r
-  inside-after i f =
-      let h = inside-home in
-      let e = inside-entry i f in
-      record { narrow = h .narrow; low = h .low; within = omega (arith, h .within, put-size (z .size .width) places (z .size .rows + i) (bytesAt (z .size .width) places r) (bytes-size (z .size .width) places r (h .within)) (e .within)) }
 
   pub inside-place : Inside places (z .size .width) (place (z .tree) (table z) v r)
   inside-place = inside _ (place-low z (w .sound) v r used-node (w .low))

@@ -101,9 +101,14 @@ fn save_row(
     };
     let rows = size.rows;
     let width = size.width;
-    placing::copy(places, width, measures::home(r), reading::held(rows, i));
+    placing::renew(
+        places,
+        width,
+        measures::home(r),
+        reading::held(rows, i),
+        bytes,
+    );
     enter(node, row, i, c, r);
-    placing::put(places, width, measures::home(r), bytes);
 }
 
 // A row that has passed every test but 24.

@@ -3,9 +3,8 @@ use borrow.Author.Needs.{needs}
 use mathlib.Core.Path.{_≡_, refl, sym, _∙_, ap}
 use mathlib.Core.Option.{some}
 use native.Mathlib.Omega.{arith}
-use Rattle.writing.specs.Laws.{narrow-row, row-entry, entry-few, inside-entry, inside-home, inside-after, held-same}
+use Rattle.writing.specs.Laws.{narrow-row, row-entry, entry-few, inside-entry, inside-home, held-same}
 use Rattle.writing.specs.Writing.{saving, savingBy}
-use Rattle.placing.specs.Laws.{put-size, bytes-size}
 use Rattle.nodes.specs.Nodes.{firstChild, child-some}
 use Rattle.tree.specs.Rules.{found-at, found-missing}
 use Rattle.writing.proofs.save_row.Statement.{statement}
@@ -42,26 +41,16 @@ held-requires c κs =
     let s = start (c .before .before) in
     entry-few (s .pre .0) (s .args .i) (s .pre .1)
 
-copy-requires : tie.Need-copy-requires
-copy-requires c κs =
+renew-requires : tie.Need-renew-requires
+renew-requires c κs =
     let s = start (c .before .before .before) in
-    (rw (c .before .home .ensures) (inside-home (s .pre .0)), rw (c .held .ensures) (inside-entry (s .pre .0) (s .args .i) (s .pre .1)))
+    (rw (c .before .home .ensures) (inside-home (s .pre .0)), rw (c .held .ensures) (inside-entry (s .pre .0) (s .args .i) (s .pre .1)), s .pre .0 .width)
 
 enter-requires : tie.Need-enter-requires
 enter-requires c κs =
     let k = c .before .before .before .before .before .before .before .before in
     let s = start k in
     (s .pre .1 .0, row-entry (s .pre .0) (s .args .i) (s .pre .1), child-some _ _ _ (known k) .1 .0, narrow-row (s .pre .0))
-
-home-requires-2 : tie.Need-home-requires-2
-home-requires-2 c κs = search needs
-
-put-requires : tie.Need-put-requires
-put-requires c κs =
-    let y = c .before .before .before .before .before .before .before .before .before .before .before in
-    let k = y .before .before .before .before in
-    let s = start k in
-    (rw (c .home2 .ensures, y .copy .ensures, y .before .held .ensures, y .before .before .home .ensures) (inside-after (s .pre .0) (s .args .i) (s .pre .1)), s .pre .0 .width)
 
 same-length : tie.Need-same-length
 same-length c = search needs
@@ -75,11 +64,10 @@ same-length-3 c = search needs
 returns-2 : tie.Need-returns-2
 unfolding saving
 returns-2 c =
-    let p = c .before .before in
-    let e = p .before .before .before .before .before .before .before in
+    let e = c .before .before .before .before in
     let y = e .before .before .before .before .before in
     let k = y .before .before .before .before in
-    rw (known k) (held-same refl (e .enter .ensures .0) (e .enter .ensures .1) (p .put .ensures ∙ rw (p .before .home2 .ensures, y .copy .ensures, y .before .held .ensures, y .before .before .home .ensures)))
+    rw (known k) (held-same refl (e .enter .ensures .0) (e .enter .ensures .1) (y .renew .ensures ∙ rw (y .before .held .ensures, y .before .before .home .ensures)))
 
 pub save-row-spec : {M : Type 1} → statement M
 save-row-spec =
@@ -91,10 +79,8 @@ save-row-spec =
     returns
     home-requires
     held-requires
-    copy-requires
+    renew-requires
     enter-requires
-    home-requires-2
-    put-requires
     same-length
     same-length-2
     same-length-3
