@@ -118,10 +118,10 @@ fn free_place(rows: usize, node: &mut [u8], row: &mut [u16], place: Place)
     requires { ⌜ (place .0 < rows + length (now node)) × (length (now row) ≡ length (now node)) ⌝ }
     ensures { λ x. ⌜ (now (node .exit) ≡ freedPlace rows (place .0) (now (node .entry))) × (now (row .exit) ≡ freedPlace rows (place .0) (now (row .entry))) ⌝ }
 {
-    if place.0 < rows {
+    if measures::is_home(rows, place) {
         return;
     }
-    let i = place.0 - rows;
+    let i = measures::entry(rows, place);
     node[i] = 0;
     row[i] = 0;
 }
