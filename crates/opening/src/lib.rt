@@ -1,4 +1,4 @@
-// Opening a store: every byte of the places zero, an empty table, node 0 alive and alone.
+// Opening a store: all that was lent becomes zero, and the tree is node 0 alone.
 ghost use mathlib.Core.Path.{_≡_};
 ghost use Prim.Native.Nat.{ℕ};
 ghost use lib.ListN.{length, replicate};

@@ -1,4 +1,4 @@
-// The two calls that change nothing: count the places in use and the snapshots alive; read a row.
+// The two calls that change nothing: the two counts, and a row of a version.
 ghost use mathlib.Core.Path.{_≡_};
 ghost use mathlib.Core.List.{[]};
 ghost use Rattle.records.specs.Records.{recordsOf};

@@ -1,5 +1,4 @@
--- Reading (document 01: go up from the node; the first node with an exception at the row gives the place; at node 0 it is
--- the row's own). As a relation to be believed, and as a function that contracts cite. Definitions only. Assumes nothing.
+-- Reading: a node's own row, else what its parent reads, and for node 0 the row's home. As a relation to be believed, and as a function that contracts cite. Definitions only. Assumes nothing.
 use mathlib.Core.Path.{_≡_}
 use mathlib.Core.Logic.{_≢_}
 use mathlib.Core.Bool.{Bool, true, false, _&&_, cond}

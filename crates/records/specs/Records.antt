@@ -110,7 +110,7 @@ snapshots t = count (isSnapshot t) 128
 unfoldable pub taken : Table → ℕ → Bool
 taken e i = not (eqb (at (e .node) i) 0)
 
--- places in use: the origin's, and the snapshot places that are not free
+-- places in use: the first L, and those whose entry is taken
 unfoldable pub used : Table → ℕ
 used e = e .rows + count (taken e) (length (e .node))
 

@@ -65,7 +65,7 @@ module _ (z : Size) (m : Model) where
   write-left t r bs l k a =
       refusal-next _ _ (ap not (eq-eqb (length bs) (z .width) l)) ∙ refusal-next _ _ (lt-leb (z .rows) r k) ∙ refusal-next _ _ (ap not a)
 
-  -- a write that passes the tests before it is refused for want of a place exactly if the row is shared and every place is in use
+  -- of the writes that reach the last test, 24 refuses exactly those whose row is shared while no place is left
   pub write-full : (t r : ℕ) (bs : List ℕ) → length bs ≡ z .width → r < z .rows → alive (m .snapshots) t ≡ true
       → (numberOf (answer z m (write t r bs)) ≡ 24) ↔ ((shared (m .snapshots) (m .mark) t r ≡ true) × (z .places ≤ placesUsed (z .rows) (m .snapshots) (m .mark)))
   unfolding answer accepted
