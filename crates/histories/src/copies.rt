@@ -109,7 +109,7 @@ pub(super) fn in_use(copies: &[usize], rows: usize, k: usize) -> bool {
 }
 
 // The mark of the k-th row of all slots.
-fn mark(copies: &[usize], k: usize) -> usize {
+pub(super) fn mark(copies: &[usize], k: usize) -> usize {
     get(copies, mark_at(k / 8, k % 8))
 }
 

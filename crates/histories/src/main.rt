@@ -1,4 +1,4 @@
-// Drawn histories: a store and a full copy of every version take the same calls, and every answer, row and count of the two is compared.
+// Drawn histories: a store and a full copy of every version take the same calls, and every answer, row, count and sharing of the two is compared.
 use libc::STDOUT_FILENO;
 use measures::Row;
 use measures::Size;
@@ -10,6 +10,7 @@ use records::Tree;
 use tree::Found;
 
 mod copies;
+mod marks;
 mod numbers;
 
 // Where the tally keeps what: of a configuration, of the whole run, and from SEEN on how often each answer was given.
@@ -204,6 +205,20 @@ fn compare_rows<'a>(
     }
 }
 
+// Which rows share a place.
+fn compare_sharing<'a>(
+    run: Run,
+    tree: Tree,
+    node: &'a [u8],
+    row: &'a [u16],
+    copies: &[usize],
+    tally: &mut [usize],
+) {
+    let rows = run.rows;
+    let same = marks::same(rows, tree, node, row, copies);
+    expect(run, tally, same, b"who shares with whom");
+}
+
 fn compare_all<'a>(
     run: Run,
     tree: Tree,
@@ -215,6 +230,7 @@ fn compare_all<'a>(
 ) {
     compare_counts(run, tree, node, row, copies, tally);
     compare_rows(run, tree, node, row, places, copies, tally);
+    compare_sharing(run, tree, node, row, copies, tally);
 }
 
 // The k-th tag of those that are drawn: 0, and numbers that fill both bytes.
