@@ -59,7 +59,7 @@ module _ (z : Size) (m : Model) where
   count-plain = no-row (verdict z m count) _ refl
 
 -- one call: the sound side of its promise applies, and its step theorem gives the rest
-one-call : {z : Records} {places : List ℕ} {m : Model} {c : Call} {h : Handed} {s′ : State} → Runs z places m → Call-ends z places c h s′
+pub one-call : {z : Records} {places : List ℕ} {m : Model} {c : Call} {h : Handed} {s′ : State} → Runs z places m → Call-ends z places c h s′
     → (h ≡ handedOf (answer (z .size) m c)) × (s′ .records .size ≡ z .size) × Runs (s′ .records) (s′ .places) (after (z .size) m c)
 unfolding Plain
 one-call {z} {places} {m} run (snapshot-ends {source = source} {new = new} {number = number} {tree = tree} e) =

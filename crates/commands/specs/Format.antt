@@ -1,0 +1,95 @@
+-- The commands of a stream (document 01, "Commands and the program"): what stands at a position. Definitions only. Assumes nothing.
+use mathlib.Core.Path.{_≡_}
+use mathlib.Core.Bool.{cond}
+use mathlib.Core.List.{List, [], _∷_}
+use mathlib.Core.Option.{Option, none, some}
+use Prim.Native.Nat.{ℕ, zero, suc, _+_, _*_, _-_, _≤_, _<_}
+use lib.Dec.{eqb, leb, ltb}
+use lib.ListN.{length, take, drop}
+use Rattle.basics.specs.Decide.{at}
+use Rattle.model.specs.Call.{Call, snapshot, read, write, delete, count}
+use Rattle.commands.specs.declared.Command.{Command}
+use Rattle.commands.specs.declared.Command.the-variants.{Over, Unknown, Cut, Snapshot, Read, Write, Delete, Count}
+use Rattle.commands.specs.declared.Step.{Step}
+
+-- two bytes, the high one first
+abbrev pub pairAt : List ℕ → ℕ → ℕ
+pairAt s p = at s p * 256 + at s (p + 1)
+
+-- how many bytes a command of a kind has, where a row has `width`; 0 if the kind is unknown
+unfoldable pub sizeOf : ℕ → ℕ → ℕ
+sizeOf width kind =
+    cond (eqb kind 1) 5
+    (cond (eqb kind 2) 5
+    (cond (eqb kind 3) (5 + width)
+    (cond (eqb kind 4) 3
+    (cond (eqb kind 5) 1
+    0))))
+
+-- a command of a known kind at p
+unfoldable pub commandOf : List ℕ → ℕ → ℕ → Command
+commandOf s p kind =
+    cond (eqb kind 1) (Snapshot (pairAt s (p + 1)) (pairAt s (p + 3)))
+    (cond (eqb kind 2) (Read (pairAt s (p + 1)) (pairAt s (p + 3)))
+    (cond (eqb kind 3) (Write (pairAt s (p + 1)) (pairAt s (p + 3)))
+    (cond (eqb kind 4) (Delete (pairAt s (p + 1)))
+    Count)))
+
+abbrev pub stand : Command → ℕ → Step
+stand c next = record { command = c; next = next }
+
+-- what stands at p, and the position behind it: nothing more; else an unknown kind; else a command that is cut; else a whole one
+unfoldable pub stepAt : ℕ → List ℕ → ℕ → Step
+stepAt width s p =
+    cond (leb (length s) p) (stand Over p)
+    (cond (eqb (sizeOf width (at s p)) 0) (stand Unknown p)
+    (cond (ltb (length s - p) (sizeOf width (at s p))) (stand Cut p)
+    (stand (commandOf s p (at s p)) (p + sizeOf width (at s p)))))
+
+-- the row's bytes of a write that stands at p
+unfoldable pub rowAt : ℕ → List ℕ → ℕ → List ℕ
+rowAt width s p = take width (drop (p + 5) s)
+
+-- the call that a command at p makes
+abbrev pub callAt : ℕ → List ℕ → ℕ → Command → Option Call
+callAt width s p Over = none
+callAt width s p Unknown = none
+callAt width s p Cut = none
+callAt width s p (Snapshot source tag) = some (snapshot source tag)
+callAt width s p (Read tag row) = some (read tag row)
+callAt width s p (Write tag row) = some (write tag row (rowAt width s p))
+callAt width s p (Delete tag) = some (delete tag)
+callAt width s p Count = some count
+
+-- A whole stream, from p on. Every command has a byte at least, so `most` commands are enough where as many bytes are left
+
+abbrev pub callsBy : Option Call → List Call → List Call
+callsBy none cs = []
+callsBy (some c) cs = c ∷ cs
+
+abbrev pub endBy : Option Call → Command → Command → Command
+endBy none here later = here
+endBy (some c) here later = later
+
+module _ (width : ℕ) (s : List ℕ) where
+  -- the calls that the commands make
+  unfoldable pub callsFrom : ℕ → ℕ → List Call
+  callsFrom zero p = []
+  callsFrom (suc most) p = callsBy (callAt width s p (stepAt width s p .command)) (callsFrom most (stepAt width s p .next))
+
+  -- what stands where no further call is made: nothing, an unknown kind or a command that is cut
+  unfoldable pub endFrom : ℕ → ℕ → Command
+  endFrom zero p = Over
+  endFrom (suc most) p = endBy (callAt width s p (stepAt width s p .command)) (stepAt width s p .command) (endFrom most (stepAt width s p .next))
+
+  abbrev pub calls : List Call
+  calls = callsFrom (length s) 0
+
+  abbrev pub ending : Command
+  ending = endFrom (length s) 0
+
+-- a command of a known kind lies whole at p
+pub record Reading (width : ℕ) (s : List ℕ) (p : ℕ) : Type 0 where
+  pub inside : p < length s
+  pub known : 0 < sizeOf width (at s p)
+  pub whole : p + sizeOf width (at s p) ≤ length s

@@ -1,0 +1,116 @@
+// Commands in a stream of bytes: a byte says the kind, and operands of two bytes follow, the high one first.
+//     1 snapshot: source tag, new tag    2 read: tag, row    3 write: tag, row, the row's bytes    4 delete: tag    5 count
+ghost use mathlib.Core.Path.{_≡_};
+ghost use Prim.Native.Nat.{ℕ, _+_, _≤_, _<_};
+ghost use lib.ListN.{length};
+ghost use Rattle.basics.specs.Decide.{at};
+ghost use Rattle.commands.specs.Format.{pairAt, sizeOf, commandOf, stepAt, Reading};
+
+// What stands at a position. A write's bytes follow its two operands in the stream.
+pub enum Command {
+    Over,
+    Unknown,
+    Cut,
+    Snapshot { source: u16, tag: u16 },
+    Read { tag: u16, row: u16 },
+    Write { tag: u16, row: u16 },
+    Delete { tag: u16 },
+    Count,
+}
+
+// A command, and the position behind it.
+pub struct Step {
+    pub command: Command,
+    pub next: usize,
+}
+
+// Two bytes, the high one first.
+fn pair(stream: &[u8], p: usize) -> u16
+    requires { ⌜ p + 1 < length (now stream) ⌝ }
+    ensures { λ r. ⌜ r ≡ pairAt (now (stream .entry)) p ⌝ }
+{
+    let high = stream[p] as u16;
+    let low = stream[p + 1] as u16;
+    high * 256 + low
+}
+
+// How many bytes a command has, where a row has `width`; 0 if the kind is unknown.
+fn size_of(width: usize, kind: u8) -> usize
+    requires { ⌜ width ≤ 1024 ⌝ }
+    ensures { λ n. ⌜ n ≡ sizeOf width kind ⌝ }
+{
+    if kind == 1 {
+        return 5;
+    }
+    if kind == 2 {
+        return 5;
+    }
+    if kind == 3 {
+        return 5 + width;
+    }
+    if kind == 4 {
+        return 3;
+    }
+    if kind == 5 {
+        return 1;
+    }
+    0
+}
+
+// The command of a known kind that lies whole at p.
+fn command_of(stream: &[u8], p: usize, width: usize) -> Command
+    requires { ⌜ Reading width (now stream) p ⌝ }
+    ensures { λ c. ⌜ c ≡ commandOf (now (stream .entry)) p (at (now (stream .entry)) p) ⌝ }
+{
+    let kind = stream[p];
+    if kind == 1 {
+        let source = pair(stream, p + 1);
+        let tag = pair(stream, p + 3);
+        return Command::Snapshot { source, tag };
+    }
+    if kind == 2 {
+        let tag = pair(stream, p + 1);
+        let row = pair(stream, p + 3);
+        return Command::Read { tag, row };
+    }
+    if kind == 3 {
+        let tag = pair(stream, p + 1);
+        let row = pair(stream, p + 3);
+        return Command::Write { tag, row };
+    }
+    if kind == 4 {
+        let tag = pair(stream, p + 1);
+        return Command::Delete { tag };
+    }
+    Command::Count
+}
+
+// The command at p, and where the next one starts. An unknown kind goes before a stream that ends inside a command.
+pub fn next(stream: &[u8], p: usize, width: usize) -> Step
+    requires { ⌜ width ≤ 1024 ⌝ }
+    ensures { λ r. ⌜ r ≡ stepAt width (now (stream .entry)) p ⌝ }
+{
+    if stream.len() <= p {
+        return Step {
+            command: Command::Over,
+            next: p,
+        };
+    }
+    let n = size_of(width, stream[p]);
+    if n == 0 {
+        return Step {
+            command: Command::Unknown,
+            next: p,
+        };
+    }
+    if stream.len() - p < n {
+        return Step {
+            command: Command::Cut,
+            next: p,
+        };
+    }
+    Step {
+        command: command_of(stream, p, width),
+        next: p + n,
+    }
+}

@@ -1,0 +1,39 @@
+-- `running::reply_delete` meets its contract. Assumes nothing.
+use borrow.Author.Needs.{needs}
+use Rattle.records.specs.Records.{recordsOf}
+use Rattle.running.specs.Replies.{delete-replied}
+use Rattle.running.proofs.reply_delete.Statement.{statement}
+use Rattle.running.proofs.reply_delete.Tie as tie
+
+delete-requires : tie.Need-delete-requires
+delete-requires c κs = search needs
+
+wide-requires : tie.Need-wide-requires
+wide-requires c κs = search needs
+
+plain-line-requires : tie.Need-plain-line-requires
+plain-line-requires c κs = search needs
+
+same-length : tie.Need-same-length
+same-length c = search needs
+
+same-length-2 : tie.Need-same-length-2
+same-length-2 c = search needs
+
+same-length-3 : tie.Need-same-length-3
+same-length-3 c = search needs
+
+returns : tie.Need-returns
+returns c = delete-replied (recordsOf _ _ _ _) (c .before .before .before .before .before .wide .ensures) (c .before .before .before .before .before .before .before .before .before .before .delete .ensures) (c .before .before .plain-line .ensures)
+
+pub reply-delete-spec : {M : Type 1} → statement M
+reply-delete-spec =
+    tie.close
+    (tie.spec
+    delete-requires
+    wide-requires
+    plain-line-requires
+    same-length
+    same-length-2
+    same-length-3
+    returns)

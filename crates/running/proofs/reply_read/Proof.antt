@@ -1,0 +1,44 @@
+-- `running::reply_read` meets its contract. Assumes nothing.
+use borrow.Author.Needs.{needs}
+use native.Mathlib.Omega.{arith}
+use Rattle.records.specs.Records.{recordsOf}
+use Rattle.running.specs.Replies.{read-refused, read-replied, read-most}
+use Rattle.running.proofs.reply_read.Statement.{statement}
+use Rattle.running.proofs.reply_read.Tie as tie
+
+read-requires : tie.Need-read-requires
+read-requires c κs = search needs
+
+wide-requires : tie.Need-wide-requires
+wide-requires c κs = search needs
+
+plain-line-requires : tie.Need-plain-line-requires
+plain-line-requires c κs = search needs
+
+same-length : tie.Need-same-length
+same-length c = search needs
+
+returns : tie.Need-returns
+returns c = read-refused (recordsOf _ _ _ _) _ (c .before .before .before .before .before .wide .ensures) (c .before .before .before .before .if1 .taken) (c .before .before .before .before .before .before .read .ensures) (c .before .before .plain-line .ensures)
+
+row-line-requires : tie.Need-row-line-requires
+row-line-requires c κs = omega (arith, read-most (recordsOf _ _ _ _) _ _ _ _ (c .before .before .before .read .ensures), c .before .before .before .before .before .before .before .before .before .pre)
+
+same-length-2 : tie.Need-same-length-2
+same-length-2 c = search needs
+
+returns-2 : tie.Need-returns-2
+returns-2 c = read-replied (recordsOf _ _ _ _) _ (c .before .before .before .before .before .wide .ensures) (c .before .before .before .before .if1 .left) (c .before .before .before .before .before .before .read .ensures) (c .before .before .row-line .ensures)
+
+pub reply-read-spec : {M : Type 1} → statement M
+reply-read-spec =
+    tie.close
+    (tie.spec
+    read-requires
+    wide-requires
+    plain-line-requires
+    same-length
+    returns
+    row-line-requires
+    same-length-2
+    returns-2)

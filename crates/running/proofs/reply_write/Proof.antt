@@ -1,0 +1,43 @@
+-- `running::reply_write` meets its contract. Assumes nothing.
+use borrow.Author.Needs.{needs}
+use Rattle.records.specs.Records.{recordsOf}
+use Rattle.running.specs.Replies.{write-replied}
+use Rattle.running.proofs.reply_write.Statement.{statement}
+use Rattle.running.proofs.reply_write.Tie as tie
+
+write-requires : tie.Need-write-requires
+write-requires c κs = search needs
+
+wide-requires : tie.Need-wide-requires
+wide-requires c κs = search needs
+
+plain-line-requires : tie.Need-plain-line-requires
+plain-line-requires c κs = search needs
+
+same-length : tie.Need-same-length
+same-length c = search needs
+
+same-length-2 : tie.Need-same-length-2
+same-length-2 c = search needs
+
+same-length-3 : tie.Need-same-length-3
+same-length-3 c = search needs
+
+same-length-4 : tie.Need-same-length-4
+same-length-4 c = search needs
+
+returns : tie.Need-returns
+returns c = write-replied (recordsOf _ _ _ _) _ (c .before .before .before .before .before .wide .ensures) (c .before .before .before .before .before .before .before .before .before .before .before .before .write .ensures) (c .before .before .plain-line .ensures)
+
+pub reply-write-spec : {M : Type 1} → statement M
+reply-write-spec =
+    tie.close
+    (tie.spec
+    write-requires
+    wide-requires
+    plain-line-requires
+    same-length
+    same-length-2
+    same-length-3
+    same-length-4
+    returns)

@@ -1,0 +1,4 @@
+pub mod Output
+pub mod Laws
+pub mod Replies
+pub mod Loop
