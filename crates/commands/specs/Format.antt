@@ -7,14 +7,11 @@ use Prim.Native.Nat.{ℕ, zero, suc, _+_, _*_, _-_, _≤_, _<_}
 use lib.Dec.{eqb, leb, ltb}
 use lib.ListN.{length, take, drop}
 use Rattle.basics.specs.Decide.{at}
+use Rattle.laying.specs.Laid.{pairAt}
 use Rattle.model.specs.Call.{Call, snapshot, read, write, delete, count}
 use Rattle.commands.specs.declared.Command.{Command}
 use Rattle.commands.specs.declared.Command.the-variants.{Over, Unknown, Cut, Snapshot, Read, Write, Delete, Count}
 use Rattle.commands.specs.declared.Step.{Step}
-
--- two bytes, the high one first
-abbrev pub pairAt : List ℕ → ℕ → ℕ
-pairAt s p = at s p * 256 + at s (p + 1)
 
 -- how many bytes a command of a kind has, where a row has `width`; 0 if the kind is unknown
 unfoldable pub sizeOf : ℕ → ℕ → ℕ

@@ -11,11 +11,12 @@ use borrow.Author.Tests.{eqb-true, eq-eqb, ne-eqb, le-leb, lt-leb, lt-ltb, le-lt
 use lib.Dec.{eqb}
 use lib.ListN.{length}
 use Rattle.basics.specs.Decide.{at}
+use Rattle.laying.specs.Laid.{pairAt}
 use Rattle.model.specs.Call.{Call, write}
 use Rattle.commands.specs.declared.Command.{Command}
 use Rattle.commands.specs.declared.Step.{Step}
 use Rattle.commands.specs.declared.Command.the-variants.{Over, Unknown, Cut, Snapshot, Read, Write, Delete, Count}
-use Rattle.commands.specs.Format.{pairAt, sizeOf, commandOf, stepAt, stand, callAt, rowAt, Reading}
+use Rattle.commands.specs.Format.{sizeOf, commandOf, stepAt, stand, callAt, rowAt, Reading}
 
 size-two : (width kind : ℕ) → 1 ≤ kind → kind ≤ 3 → 5 ≤ sizeOf width kind
 unfolding sizeOf

@@ -4,7 +4,7 @@ ghost use mathlib.Core.Path.{_≡_};
 ghost use Prim.Native.Nat.{ℕ, _+_, _≤_, _<_};
 ghost use lib.ListN.{length};
 ghost use Rattle.basics.specs.Decide.{at};
-ghost use Rattle.commands.specs.Format.{pairAt, sizeOf, commandOf, stepAt, Reading};
+ghost use Rattle.commands.specs.Format.{sizeOf, commandOf, stepAt, Reading};
 
 // What stands at a position. A write's bytes follow its two operands in the stream.
 pub enum Command {
@@ -22,16 +22,6 @@ pub enum Command {
 pub struct Step {
     pub command: Command,
     pub next: usize,
-}
-
-// Two bytes, the high one first.
-fn pair(stream: &[u8], p: usize) -> u16
-    requires { ⌜ p + 1 < length (now stream) ⌝ }
-    ensures { λ r. ⌜ r ≡ pairAt (now (stream .entry)) p ⌝ }
-{
-    let high = stream[p] as u16;
-    let low = stream[p + 1] as u16;
-    high * 256 + low
 }
 
 // How many bytes a command has, where a row has `width`; 0 if the kind is unknown.
@@ -64,22 +54,22 @@ fn command_of(stream: &[u8], p: usize, width: usize) -> Command
 {
     let kind = stream[p];
     if kind == 1 {
-        let source = pair(stream, p + 1);
-        let tag = pair(stream, p + 3);
+        let source = laying::number(stream, p + 1);
+        let tag = laying::number(stream, p + 3);
         return Command::Snapshot { source, tag };
     }
     if kind == 2 {
-        let tag = pair(stream, p + 1);
-        let row = pair(stream, p + 3);
+        let tag = laying::number(stream, p + 1);
+        let row = laying::number(stream, p + 3);
         return Command::Read { tag, row };
     }
     if kind == 3 {
-        let tag = pair(stream, p + 1);
-        let row = pair(stream, p + 3);
+        let tag = laying::number(stream, p + 1);
+        let row = laying::number(stream, p + 3);
         return Command::Write { tag, row };
     }
     if kind == 4 {
-        let tag = pair(stream, p + 1);
+        let tag = laying::number(stream, p + 1);
         return Command::Delete { tag };
     }
     Command::Count

@@ -6,7 +6,7 @@ ghost use Rattle.placing.specs.Placing.{putAt, Inside};
 use measures::Place;
 
 // Every number of `to` becomes that of `from`, which is as long.
-fn fill(to: &mut [u8], from: &[u8])
+pub fn fill(to: &mut [u8], from: &[u8])
     requires { ⌜ length (now to) ≡ length (now from) ⌝ }
     ensures { λ x. ⌜ now (to .exit) ≡ now (from .entry) ⌝ }
 {

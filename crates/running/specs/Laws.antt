@@ -14,8 +14,10 @@ use Rattle.model.specs.Call.{Call, snapshot, read, write, delete, count, Refusa
 use Rattle.model.specs.Model.{Model, answers, final, answer, after, accepted, verdict, unless}
 use Rattle.theorem.specs.Trace.{Handed, handedOf}
 use Rattle.theorem.specs.Theorem.{one-call}
-use Rattle.text.specs.Text.{line, dash, hex, pairText, shown, answerLine, Lays}
-use Rattle.text.specs.Laws.{lays-as, line-most}
+use Rattle.text.specs.Text.{line, dash, hex, pairText, shown, answerLine}
+use Rattle.laying.specs.Laid.{Lays}
+use Rattle.laying.specs.Laws.{lays-as}
+use Rattle.text.specs.Laws.{line-most}
 use Rattle.commands.specs.declared.Command.{Command}
 use Rattle.commands.specs.declared.Step.{Step}
 use Rattle.commands.specs.declared.Command.the-variants.{Over, Unknown, Cut, Read, Write}

@@ -16,8 +16,8 @@ use Rattle.model.specs.Call.{number, unsound}
 use Rattle.model.specs.Model.{Model, final}
 use Rattle.soundness.specs.Judged.{judged-sound, judged-unsound}
 use Rattle.steps.specs.Calls.{Runs}
-use Rattle.text.specs.Text.{Lays}
-use Rattle.text.specs.Laws.{lays-none, lays-then, lays-as}
+use Rattle.laying.specs.Laid.{Lays}
+use Rattle.laying.specs.Laws.{lays-none, lays-then, lays-as}
 use Rattle.commands.specs.Format.{callsFrom}
 use Rattle.running.specs.Output.{textFrom, output, lastModel, lineRoom, Served, Ran-one, Ran-all, runNumber, Kept, StreamEnds}
 use Rattle.running.specs.Laws.{text-over, final-over}

@@ -14,7 +14,8 @@ use Rattle.model.specs.Model.{Model, answers, final}
 use Rattle.soundness.specs.Judged.{Judged}
 use Rattle.theorem.specs.Trace.{Handed, state, Call-ends}
 use Rattle.steps.specs.Calls.{Runs}
-use Rattle.text.specs.Text.{line, dash, hex, pairText, answerLine, Lays}
+use Rattle.text.specs.Text.{line, dash, hex, pairText, answerLine}
+use Rattle.laying.specs.Laid.{Lays}
 use Rattle.commands.specs.declared.Command.{Command}
 use Rattle.commands.specs.declared.Command.the-variants.{Over, Unknown, Cut, Snapshot, Read, Write, Delete, Count}
 use Rattle.commands.specs.Format.{callsFrom, endFrom, calls, ending}

@@ -21,8 +21,10 @@ use Rattle.snapshots.specs.Taking.{SnapshotEnds}
 use Rattle.writing.specs.Writing.{Held, WriteEnds}
 use Rattle.deleting.specs.Deleting.{Left, DeleteEnds}
 use Rattle.theorem.specs.Trace.{handed, snapshot-ends, read-ends, write-ends, delete-ends, count-ends}
-use Rattle.text.specs.Text.{line, dash, hex, pairText, Lays}
-use Rattle.text.specs.Laws.{lays-as, hex-size, pair-most}
+use Rattle.text.specs.Text.{line, dash, hex, pairText}
+use Rattle.laying.specs.Laid.{Lays}
+use Rattle.laying.specs.Laws.{lays-as}
+use Rattle.text.specs.Laws.{hex-size, pair-most}
 use Rattle.running.specs.Output.{Replied, Replies}
 
 -- A read hands out a row's bytes at most

@@ -11,8 +11,9 @@ use Rattle.records.specs.Records.{Records, recordsOf}
 use Rattle.model.specs.Model.{refusal, openTests, inMeasure}
 use Rattle.opening.specs.Opening.{openVerdict, Opening}
 use Rattle.steps.specs.Begins.{open-call}
-use Rattle.text.specs.Text.{line, dash, Lays}
-use Rattle.text.specs.Laws.{lays-as}
+use Rattle.text.specs.Text.{line, dash}
+use Rattle.laying.specs.Laid.{Lays}
+use Rattle.laying.specs.Laws.{lays-as}
 use Rattle.running.specs.Output.{lineRoom, runNumber, StreamEnds}
 use Rattle.shelf.specs.Printed.{shelf, served, printed}
 

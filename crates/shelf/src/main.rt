@@ -1,7 +1,7 @@
 // The program: a store of 4 rows of 8 bytes in 6 places takes the stream on standard input, and prints a line for each command.
 ghost use Prim.Native.Nat.{_≤_};
 ghost use lib.ListN.{length};
-ghost use Rattle.text.specs.Text.{Lays};
+ghost use Rattle.laying.specs.Laid.{Lays};
 ghost use Rattle.shelf.specs.Printed.{printed, served};
 use libc::STDIN_FILENO;
 use libc::STDOUT_FILENO;

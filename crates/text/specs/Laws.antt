@@ -1,4 +1,4 @@
--- Laws of texts laid one behind the other, then how long the parts of a line are. Assumes nothing.
+-- How long the parts of a line are, and each laid from its parts. Assumes nothing.
 use mathlib.Core.Path.{_≡_, refl, sym, _∙_, ap}
 use mathlib.Core.Bool.{Bool, true, false, cond}
 use mathlib.Core.List.{List, [], _∷_, _++_, append-assoc, append-nil}
@@ -9,66 +9,9 @@ use borrow.Author.Tests.{lt-ltb, le-ltb}
 use lib.ListN.{length, take, drop, set, length-append, length-drop, length-set, take-append-drop}
 use lib.Seq.{length-take-le, take-at, drop-at, drop-drop, set-split, take-suc, take-all}
 use Rattle.basics.specs.Decide.{at}
-use Rattle.text.specs.Text.{digit, place, decimal, hex, head, line, pairText, space, newline, laid, Lays}
-
--- Texts laid into bytes
-
-module _ (b : List ℕ) (p : ℕ) (t : List ℕ) (m : p + length t ≤ length b) where
-  -- up to the text's end
-  front : List ℕ
-  front = take p b ++ t
-
-  front-size : length front ≡ p + length t
-  unfolding front
-  front-size = omega (arith, length-append (take p b) t, length-take-le p b (omega arith))
-
-  front-laid : laid b p t ≡ front ++ drop (p + length t) b
-  unfolding laid front
-  front-laid = sym (append-assoc (take p b) t (drop (p + length t) b))
-
-  pub laid-size : length (laid b p t) ≡ length b
-  laid-size = rw front-laid (omega (arith, front-size, length-append front (drop (p + length t) b), length-drop (p + length t) b))
-
-  laid-front : take (p + length t) (laid b p t) ≡ front
-  laid-front = rw front-laid (take-at front (drop (p + length t) b) (p + length t) front-size)
-
-  laid-past : (n : ℕ) → drop ((p + length t) + n) (laid b p t) ≡ drop ((p + length t) + n) b
-  laid-past n =
-      sym (drop-drop n (p + length t) (laid b p t))
-      ∙ ap (λ (r : List ℕ). drop n r) (rw front-laid (drop-at front (drop (p + length t) b) (p + length t) front-size))
-      ∙ drop-drop n (p + length t) b
-
--- a text behind another is the two together
-pub laid-laid : (b : List ℕ) (p : ℕ) (t u : List ℕ) → p + length t ≤ length b → laid (laid b p t) (p + length t) u ≡ laid b p (t ++ u)
-unfolding laid front
-laid-laid b p t u m =
-    let n : p + length (t ++ u) ≡ (p + length t) + length u = omega (arith, length-append t u) in
-    rw (n, laid-front b p t m, laid-past b p t m (length u), append-assoc t u (drop ((p + length t) + length u) b))
-    (append-assoc (take p b) t (u ++ drop ((p + length t) + length u) b))
-
-laid-none : (b : List ℕ) (p : ℕ) → b ≡ laid b p []
-unfolding laid
-laid-none b p = let e : p + 0 ≡ p = omega arith in rw e (sym (take-append-drop p b))
-
-laid-one : (b : List ℕ) (p x : ℕ) → p < length b → set b p x ≡ laid b p (x ∷ [])
-unfolding laid
-laid-one b p x l = let e : p + 1 ≡ suc p = omega arith in rw e (set-split b p x l)
-
--- The same with the position behind
-
-pub lays-none : (b : List ℕ) (p : ℕ) → p ≤ length b → Lays b p [] b p
-lays-none b p m = record { bytes = laid-none b p; size = refl; ends = omega arith; inside = m }
-
-pub lays-one : (b : List ℕ) (p x : ℕ) → p < length b → Lays b p (x ∷ []) (set b p x) (p + 1)
-lays-one b p x l = record { bytes = laid-one b p x l; size = length-set b p x; ends = refl; inside = omega (arith, length-set b p x) }
-
-pub lays-then : {b : List ℕ} {p : ℕ} {t u a c : List ℕ} {to end : ℕ} → Lays b p t a to → Lays a to u c end → Lays b p (t ++ u) c end
-lays-then {b} {p} {t} {u} l k = record {
-  bytes = k .bytes ∙ rw (l .bytes, l .ends) (laid-laid b p t u (omega (arith, l .size, l .ends, l .inside)));
-  size = k .size ∙ l .size;
-  ends = omega (arith, k .ends, l .ends, length-append t u);
-  inside = k .inside;
-}
+use Rattle.text.specs.Text.{digit, place, decimal, hex, head, line, pairText, space, newline}
+use Rattle.laying.specs.Laid.{Lays}
+use Rattle.laying.specs.Laws.{lays-none, lays-then, lays-as}
 
 -- How long
 
@@ -112,10 +55,6 @@ pub place-some : (p n x : ℕ) → p ≤ n → x ≡ digit (n / p % 10) → x �
 unfolding place
 place-some p n x l e = rw (le-ltb n p l, e)
 
--- the same text, said otherwise
-pub lays-as : {b : List ℕ} {p : ℕ} {t u a : List ℕ} {to : ℕ} → t ≡ u → Lays b p t a to → Lays b p u a to
-lays-as e l = rw (sym e) l
-
 -- a digit takes one byte at most
 pub place-room : (q n : ℕ) {b : List ℕ} {p : ℕ} {a : List ℕ} {to : ℕ} → Lays b p (place q n) a to → (to ≤ p + 1) × (length a ≡ length b)
 place-room q n l = (omega (arith, l .ends, place-most q n), l .size)
@@ -129,9 +68,6 @@ decimal-laid n e x y z w = lays-then x (lays-then y (lays-then z (lays-as (ap (�
 
 pub decimal-room : (n : ℕ) {b : List ℕ} {p : ℕ} {a : List ℕ} {to : ℕ} → Lays b p (decimal n) a to → (to ≤ p + 4) × (length a ≡ length b)
 decimal-room n l = (omega (arith, l .ends, decimal-most n), l .size)
-
-pub one-room : {b : List ℕ} {p x : ℕ} {a : List ℕ} {to : ℕ} → Lays b p (x ∷ []) a to → (to ≡ p + 1) × (length a ≡ length b)
-one-room l = (l .ends, l .size)
 
 pub head-laid : (k n : ℕ) {b : List ℕ} {p : ℕ} {a₁ a₂ a₃ a : List ℕ} {to₁ to₂ to₃ to : ℕ}
     → Lays b p (decimal k) a₁ to₁ → Lays a₁ to₁ space a₂ to₂ → Lays a₂ to₂ (decimal n) a₃ to₃ → Lays a₃ to₃ space a to → Lays b p (head k n) a to

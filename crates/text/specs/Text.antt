@@ -1,10 +1,8 @@
 -- The lines of an output, as bytes (document 01, "Commands and the program"). Definitions only. Assumes nothing.
-use mathlib.Core.Path.{_≡_}
 use mathlib.Core.Bool.{cond}
 use mathlib.Core.List.{List, [], _∷_, _++_}
-use Prim.Native.Nat.{ℕ, _+_, _/_, _%_, _≤_}
+use Prim.Native.Nat.{ℕ, _+_, _/_, _%_}
 use lib.Dec.{ltb}
-use lib.ListN.{length, take, drop}
 use Rattle.model.specs.Call.{Answer, done, row, counts, refused, numberOf}
 
 -- the code of a digit below 16: 0 to 9, then a to f
@@ -54,16 +52,3 @@ shown (refused r) = dash
 -- the line of an answer
 unfoldable pub answerLine : ℕ → Answer → List ℕ
 answerLine k a = line k (numberOf a) (shown a)
-
--- Text in lent bytes
-
--- the bytes with a text at a position, and all else as it was
-unfoldable pub laid : List ℕ → ℕ → List ℕ → List ℕ
-laid before at text = take at before ++ (text ++ drop (at + length text) before)
-
--- a text was laid at a position, inside the bytes, and `to` is the position behind it
-pub record Lays (before : List ℕ) (at : ℕ) (text after : List ℕ) (to : ℕ) : Type 0 where
-  pub bytes : after ≡ laid before at text
-  pub size : length after ≡ length before
-  pub ends : to ≡ at + length text
-  pub inside : to ≤ length after

@@ -1,9 +1,9 @@
 // Lines of text, laid into lent bytes from a position on. Each function returns the position behind what it laid.
 ghost use mathlib.Core.Path.{_≡_};
-ghost use mathlib.Core.List.{[], _∷_};
 ghost use Prim.Native.Nat.{ℕ, _+_, _*_, _/_, _%_, _≤_, _<_};
 ghost use lib.ListN.{length};
-ghost use Rattle.text.specs.Text.{digit, place, decimal, hex, head, line, dash, pairText, Lays};
+ghost use Rattle.text.specs.Text.{digit, place, decimal, hex, head, line, dash, pairText};
+ghost use Rattle.laying.specs.Laid.{Lays};
 
 // The code of a digit below 16.
 fn digit(d: usize) -> u8
@@ -16,14 +16,6 @@ fn digit(d: usize) -> u8
     (87 + d) as u8
 }
 
-fn put(out: &mut [u8], at: usize, byte: u8) -> usize
-    requires { ⌜ at < length (now out) ⌝ }
-    ensures { λ to. ⌜ Lays (now (out .entry)) at (byte ∷ []) (now (out .exit)) to ⌝ }
-{
-    out[at] = byte;
-    at + 1
-}
-
 // The digit of n that stands for p, if n has it.
 fn place(out: &mut [u8], at: usize, n: usize, p: usize) -> usize
     requires { ⌜ (at < length (now out)) × (0 < p) ⌝ }
@@ -32,7 +24,7 @@ fn place(out: &mut [u8], at: usize, n: usize, p: usize) -> usize
     if n < p {
         return at;
     }
-    put(out, at, digit(n / p % 10))
+    laying::put(out, at, digit(n / p % 10))
 }
 
 // A number below 10,000.
@@ -43,7 +35,7 @@ fn decimal(out: &mut [u8], at: usize, n: usize) -> usize
     let a = place(out, at, n, 1000);
     let b = place(out, a, n, 100);
     let c = place(out, b, n, 10);
-    put(out, c, digit(n % 10))
+    laying::put(out, c, digit(n % 10))
 }
 
 // What a line begins with: its own number and the answer's.
@@ -52,9 +44,9 @@ fn head(out: &mut [u8], at: usize, k: usize, n: usize) -> usize
     ensures { λ to. ⌜ Lays (now (out .entry)) at (head k n) (now (out .exit)) to ⌝ }
 {
     let a = decimal(out, at, k);
-    let b = put(out, a, 32);
+    let b = laying::put(out, a, 32);
     let c = decimal(out, b, n);
-    put(out, c, 32)
+    laying::put(out, c, 32)
 }
 
 // The two digits of a byte.
@@ -80,8 +72,8 @@ fn hex(out: &mut [u8], at: usize, bytes: &[u8]) -> usize
     let mut to = at;
     let mut i: usize = 0;
     while i < bytes.len() {
-        let next = put(out, to, high(bytes[i]));
-        to = put(out, next, low(bytes[i]));
+        let next = laying::put(out, to, high(bytes[i]));
+        to = laying::put(out, next, low(bytes[i]));
         i += 1;
     }
     to
@@ -93,7 +85,7 @@ fn pair(out: &mut [u8], at: usize, used: usize, snapshots: usize) -> usize
     ensures { λ to. ⌜ Lays (now (out .entry)) at (pairText used snapshots) (now (out .exit)) to ⌝ }
 {
     let a = decimal(out, at, used);
-    let b = put(out, a, 32);
+    let b = laying::put(out, a, 32);
     decimal(out, b, snapshots)
 }
 
@@ -103,8 +95,8 @@ pub fn plain_line(out: &mut [u8], at: usize, k: usize, n: usize) -> usize
     ensures { λ to. ⌜ Lays (now (out .entry)) at (line k n dash) (now (out .exit)) to ⌝ }
 {
     let a = head(out, at, k, n);
-    let b = put(out, a, 45);
-    put(out, b, 10)
+    let b = laying::put(out, a, 45);
+    laying::put(out, b, 10)
 }
 
 // The line of a row.
@@ -114,7 +106,7 @@ pub fn row_line(out: &mut [u8], at: usize, k: usize, bytes: &[u8]) -> usize
 {
     let a = head(out, at, k, 0);
     let b = hex(out, a, bytes);
-    put(out, b, 10)
+    laying::put(out, b, 10)
 }
 
 // The line of two counts.
@@ -124,5 +116,5 @@ pub fn count_line(out: &mut [u8], at: usize, k: usize, used: usize, snapshots: u
 {
     let a = head(out, at, k, 0);
     let b = pair(out, a, used, snapshots);
-    put(out, b, 10)
+    laying::put(out, b, 10)
 }

@@ -2,7 +2,7 @@
 use borrow.Author.Needs.{needs}
 use mathlib.Core.Path.{refl, sym, _∙_, ap}
 use native.Mathlib.Omega.{arith}
-use Rattle.text.specs.Laws.{lays-none}
+use Rattle.laying.specs.Laws.{lays-none}
 use Rattle.commands.specs.declared.Step.{Step}
 use Rattle.commands.specs.Laws.{write-inside}
 use Rattle.running.specs.Laws.{ran-step, ran-read, ran-write, ran-end, unknown-line, cut-line, over-line, dash-most, row-part}

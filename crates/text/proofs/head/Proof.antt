@@ -1,7 +1,8 @@
 -- `text::head` meets its contract. Assumes nothing.
 use borrow.Author.Needs.{needs}
 use native.Mathlib.Omega.{arith}
-use Rattle.text.specs.Laws.{decimal-room, one-room, head-laid}
+use Rattle.laying.specs.Laws.{one-room}
+use Rattle.text.specs.Laws.{decimal-room, head-laid}
 use Rattle.text.proofs.head.Statement.{statement}
 use Rattle.text.proofs.head.Tie as tie
 

@@ -3,8 +3,10 @@ use borrow.Author.Needs.{needs}
 use Prim.Native.Nat.{_≤_, _-_}
 use lib.ListN.{length, take}
 use native.Mathlib.Omega.{arith}
-use Rattle.text.specs.Laws.{hex-at, one-room, hex-start, hex-next, hex-all}
-use Rattle.text.specs.Text.{hex, Lays}
+use Rattle.laying.specs.Laws.{one-room}
+use Rattle.text.specs.Laws.{hex-at, hex-start, hex-next, hex-all}
+use Rattle.text.specs.Text.{hex}
+use Rattle.laying.specs.Laid.{Lays}
 use Rattle.text.proofs.hex.Statement.{statement}
 use Rattle.text.proofs.hex.Tie as tie
 

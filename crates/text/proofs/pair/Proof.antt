@@ -1,7 +1,8 @@
 -- `text::pair` meets its contract. Assumes nothing.
 use borrow.Author.Needs.{needs}
 use native.Mathlib.Omega.{arith}
-use Rattle.text.specs.Laws.{decimal-room, one-room, pair-laid}
+use Rattle.laying.specs.Laws.{one-room}
+use Rattle.text.specs.Laws.{decimal-room, pair-laid}
 use Rattle.text.proofs.pair.Statement.{statement}
 use Rattle.text.proofs.pair.Tie as tie
 

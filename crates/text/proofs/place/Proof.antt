@@ -1,7 +1,8 @@
 -- `text::place` meets its contract. Assumes nothing.
 use borrow.Author.Needs.{needs}
 use native.Mathlib.Omega.{arith}
-use Rattle.text.specs.Laws.{lays-none, lays-as, place-none, place-some}
+use Rattle.laying.specs.Laws.{lays-none, lays-as}
+use Rattle.text.specs.Laws.{place-none, place-some}
 use Rattle.text.proofs.place.Statement.{statement}
 use Rattle.text.proofs.place.Tie as tie
 

@@ -1,7 +1,8 @@
 -- `text::plain_line` meets its contract. Assumes nothing.
 use borrow.Author.Needs.{needs}
 use native.Mathlib.Omega.{arith}
-use Rattle.text.specs.Laws.{head-room, one-room, line-laid}
+use Rattle.laying.specs.Laws.{one-room}
+use Rattle.text.specs.Laws.{head-room, line-laid}
 use Rattle.text.proofs.plain_line.Statement.{statement}
 use Rattle.text.proofs.plain_line.Tie as tie
 

@@ -1,8 +1,8 @@
--- `text::put` meets its contract. Assumes nothing.
+-- `laying::put` meets its contract. Assumes nothing.
 use borrow.Author.Needs.{needs}
-use Rattle.text.specs.Laws.{lays-one}
-use Rattle.text.proofs.put.Statement.{statement}
-use Rattle.text.proofs.put.Tie as tie
+use Rattle.laying.specs.Laws.{lays-one}
+use Rattle.laying.proofs.put.Statement.{statement}
+use Rattle.laying.proofs.put.Tie as tie
 
 slice-write-out : tie.Need-slice-write-out
 slice-write-out c = search needs

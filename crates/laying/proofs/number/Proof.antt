@@ -1,9 +1,9 @@
--- `commands::pair` meets its contract. Assumes nothing.
+-- `laying::number` meets its contract. Assumes nothing.
 use borrow.Author.Needs.{needs}
 use Prim.Native.Nat.{_+_}
 use native.Mathlib.Omega.{arith}
-use Rattle.commands.proofs.pair.Statement.{statement}
-use Rattle.commands.proofs.pair.Tie as tie
+use Rattle.laying.proofs.number.Statement.{statement}
+use Rattle.laying.proofs.number.Tie as tie
 
 shared-slice-read-high : tie.Need-shared-slice-read-high
 shared-slice-read-high c = search needs
@@ -29,8 +29,8 @@ add-result c = omega (arith, c .before .shared-slice-known .given (c .before .be
 returns : tie.Need-returns
 returns c = search needs
 
-pub pair-spec : {M : Type 1} → statement M
-pair-spec =
+pub number-spec : {M : Type 1} → statement M
+number-spec =
     tie.close
     (tie.spec
     shared-slice-read-high

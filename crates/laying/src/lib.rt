@@ -1,0 +1,74 @@
+// Bytes laid into lent ones from a position on, and 16-bit numbers as two bytes, the high one first.
+// What lays returns the position behind it.
+ghost use mathlib.Core.Path.{_≡_};
+ghost use mathlib.Core.List.{[], _∷_};
+ghost use Prim.Native.Nat.{ℕ, _+_, _*_, _/_, _%_, _≤_, _<_};
+ghost use lib.ListN.{length};
+ghost use Rattle.laying.specs.Laid.{Lays, pairs, numbers, pairAt};
+
+pub fn put(out: &mut [u8], at: usize, byte: u8) -> usize
+    requires { ⌜ at < length (now out) ⌝ }
+    ensures { λ to. ⌜ Lays (now (out .entry)) at (byte ∷ []) (now (out .exit)) to ⌝ }
+{
+    out[at] = byte;
+    at + 1
+}
+
+// Bytes as they are.
+pub fn lay(out: &mut [u8], at: usize, bytes: &[u8]) -> usize
+    requires { ⌜ at + length (now bytes) ≤ length (now out) ⌝ }
+    ensures { λ to. ⌜ Lays (now (out .entry)) at (now (bytes .entry)) (now (out .exit)) to ⌝ }
+{
+    let to = at + bytes.len();
+    placing::fill(&mut out[at..to], bytes);
+    to
+}
+
+// The two bytes of a number.
+fn high(x: u16) -> u8
+    ensures { λ b. ⌜ b ≡ x / 256 ⌝ }
+{
+    (x / 256) as u8
+}
+
+fn low(x: u16) -> u8
+    ensures { λ b. ⌜ b ≡ x % 256 ⌝ }
+{
+    (x % 256) as u8
+}
+
+pub fn lay_numbers(out: &mut [u8], at: usize, xs: &[u16]) -> usize
+    requires { ⌜ at + 2 * length (now xs) ≤ length (now out) ⌝ }
+    ensures { λ to. ⌜ Lays (now (out .entry)) at (pairs (now (xs .entry))) (now (out .exit)) to ⌝ }
+{
+    let mut to = at;
+    let mut i: usize = 0;
+    while i < xs.len() {
+        let next = put(out, to, high(xs[i]));
+        to = put(out, next, low(xs[i]));
+        i += 1;
+    }
+    to
+}
+
+// The number that begins at p.
+pub fn number(bytes: &[u8], p: usize) -> u16
+    requires { ⌜ p + 1 < length (now bytes) ⌝ }
+    ensures { λ x. ⌜ x ≡ pairAt (now (bytes .entry)) p ⌝ }
+{
+    let high = bytes[p] as u16;
+    let low = bytes[p + 1] as u16;
+    high * 256 + low
+}
+
+// Every number of the bytes.
+pub fn load_numbers(bytes: &[u8], to: &mut [u16])
+    requires { ⌜ length (now bytes) ≡ 2 * length (now to) ⌝ }
+    ensures { λ r. ⌜ now (to .exit) ≡ numbers (now (bytes .entry)) ⌝ }
+{
+    let mut i: usize = 0;
+    while i < to.len() {
+        to[i] = number(bytes, 2 * i);
+        i += 1;
+    }
+}

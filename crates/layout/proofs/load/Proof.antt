@@ -1,0 +1,120 @@
+-- `layout::load` meets its contract. Assumes nothing.
+use borrow.Author.Needs.{needs}
+use Rattle.layout.specs.Laws.{load-same}
+use Rattle.layout.proofs.load.Statement.{statement}
+use Rattle.layout.proofs.load.Tie as tie
+
+add-rows : tie.Need-add-rows
+add-rows c = search needs
+
+slice-aggregate-fill : tie.Need-slice-aggregate-fill
+slice-aggregate-fill c = search needs
+
+sub-fill : tie.Need-sub-fill
+sub-fill c = search needs
+
+part-fill-start : tie.Need-part-fill-start
+part-fill-start c = search needs
+
+part-fill-end : tie.Need-part-fill-end
+part-fill-end c = search needs
+
+fill-requires : tie.Need-fill-requires
+fill-requires c κs = search needs
+
+slice-aggregate-fill-2 : tie.Need-slice-aggregate-fill-2
+slice-aggregate-fill-2 c = search needs
+
+sub-fill-2 : tie.Need-sub-fill-2
+sub-fill-2 c = search needs
+
+part-fill-start-2 : tie.Need-part-fill-start-2
+part-fill-start-2 c = search needs
+
+part-fill-end-2 : tie.Need-part-fill-end-2
+part-fill-end-2 c = search needs
+
+fill-requires-2 : tie.Need-fill-requires-2
+fill-requires-2 c κs = search needs
+
+sub-load-numbers : tie.Need-sub-load-numbers
+sub-load-numbers c = search needs
+
+part-load-numbers-start : tie.Need-part-load-numbers-start
+part-load-numbers-start c = search needs
+
+part-load-numbers-end : tie.Need-part-load-numbers-end
+part-load-numbers-end c = search needs
+
+slice-aggregate-load-numbers : tie.Need-slice-aggregate-load-numbers
+slice-aggregate-load-numbers c = search needs
+
+load-numbers-requires : tie.Need-load-numbers-requires
+load-numbers-requires c κs = search needs
+
+sub-fill-3 : tie.Need-sub-fill-3
+sub-fill-3 c = search needs
+
+part-fill-start-3 : tie.Need-part-fill-start-3
+part-fill-start-3 c = search needs
+
+part-fill-end-3 : tie.Need-part-fill-end-3
+part-fill-end-3 c = search needs
+
+fill-requires-3 : tie.Need-fill-requires-3
+fill-requires-3 c κs = search needs
+
+sub-load-numbers-2 : tie.Need-sub-load-numbers-2
+sub-load-numbers-2 c = search needs
+
+part-load-numbers-start-2 : tie.Need-part-load-numbers-start-2
+part-load-numbers-start-2 c = search needs
+
+part-load-numbers-end-2 : tie.Need-part-load-numbers-end-2
+part-load-numbers-end-2 c = search needs
+
+load-numbers-requires-2 : tie.Need-load-numbers-requires-2
+load-numbers-requires-2 c κs = search needs
+
+same-length : tie.Need-same-length
+same-length c = search needs
+
+same-length-2 : tie.Need-same-length-2
+same-length-2 c = search needs
+
+returns : tie.Need-returns
+returns c =
+    let (f, n, r) = c .before .before .before .before .before .before .before .before .before .before .before .before .before .before .before .before .before .before .before .before .before .before .before .before .before .pre in
+    load-same _ n (f .long) (c .before .before .before .before .before .before .before .before .before .before .before .before .before .before .before .before .before .before .before .fill .ensures) (c .before .before .before .before .before .before .before .before .before .before .before .before .before .before .before .fill2 .ensures) (c .before .before .before .before .before .before .before .before .before .before .before .load-numbers .ensures) (c .before .before .before .before .before .before .before .fill3 .ensures) (c .before .before .load-numbers2 .ensures)
+
+pub load-spec : {M : Type 1} → statement M
+load-spec =
+    tie.close
+    (tie.spec
+    add-rows
+    slice-aggregate-fill
+    sub-fill
+    part-fill-start
+    part-fill-end
+    fill-requires
+    slice-aggregate-fill-2
+    sub-fill-2
+    part-fill-start-2
+    part-fill-end-2
+    fill-requires-2
+    sub-load-numbers
+    part-load-numbers-start
+    part-load-numbers-end
+    slice-aggregate-load-numbers
+    load-numbers-requires
+    sub-fill-3
+    part-fill-start-3
+    part-fill-end-3
+    fill-requires-3
+    sub-load-numbers-2
+    part-load-numbers-start-2
+    part-load-numbers-end-2
+    load-numbers-requires-2
+    same-length
+    same-length-2
+    returns)
