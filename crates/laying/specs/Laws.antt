@@ -100,10 +100,10 @@ numbers-at (h ∷ m ∷ bs) (suc k) l =
     ∙ ap₂ (λ (x y : ℕ). x * 256 + y) (ap (at (h ∷ m ∷ bs)) a) (ap (at (h ∷ m ∷ bs)) b)
 
 -- numbers that are laid are read back, and so are bytes
-pub numbers-pairs : (xs : List ℕ) → ((i : ℕ) → at xs i < 65536) → numbers (pairs xs) ≡ xs
+pub numbers-pairs : (xs : List ℕ) → numbers (pairs xs) ≡ xs
 unfolding numbers pairs
-numbers-pairs [] f = refl
-numbers-pairs (x ∷ xs) f = ap₂ _∷_ (omega arith) (numbers-pairs xs (λ i. f (suc i)))
+numbers-pairs [] = refl
+numbers-pairs (x ∷ xs) = ap₂ _∷_ (omega arith) (numbers-pairs xs)
 
 pub pairs-numbers : (bs : List ℕ) (n : ℕ) → length bs ≡ 2 * n → ((i : ℕ) → at bs i < 256) → pairs (numbers bs) ≡ bs
 unfolding numbers pairs

@@ -17,7 +17,7 @@ pub tree-size : (t : Tree) → length (t .state) ≡ 128 → length (t .parent) 
 unfolding treeBytes
 tree-size t s p g = omega (arith, s, p, g, length-append (t .state) (t .parent ++ pairs (t .tag)), length-append (t .parent) (pairs (t .tag)), pairs-size (t .tag))
 
-table-size : (node row : List ℕ) → length (tableBytes node row) ≡ length node + 2 * length row
+pub table-size : (node row : List ℕ) → length (tableBytes node row) ≡ length node + 2 * length row
 unfolding tableBytes
 table-size node row = omega (arith, length-append node (pairs row), pairs-size row)
 

@@ -57,6 +57,15 @@ pub fn fits(records: &[u8]) -> bool
     true
 }
 
+// How many entries the table has.
+pub fn entries(records: &[u8]) -> usize
+    requires { ⌜ Fits (now records) ⌝ }
+    ensures { λ n. ⌜ (n ≡ entries (sizeAt (now (records .entry)))) × (n ≤ 4096) ⌝ }
+{
+    let size = size(records);
+    size.places - size.rows
+}
+
 // The tree, and the two halves of the table, whose lengths are the right ones.
 pub fn load(records: &[u8], node: &mut [u8], row: &mut [u16]) -> Tree
     requires { ⌜ Fits (now records) × (length (now node) ≡ entries (sizeAt (now records))) × (length (now row) ≡ entries (sizeAt (now records))) ⌝ }

@@ -1,0 +1,4 @@
+pub mod Host
+pub mod Laws
+pub mod Reads
+pub mod Opens
