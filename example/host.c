@@ -1,0 +1,117 @@
+/* A store of four rows in six places, all of its memory lent by this program.
+ */
+#include "rowstore.h"
+
+#include <stdio.h>
+#include <stdlib.h>
+#include <string.h>
+
+enum { ROWS = 4, WIDTH = 8, PLACES = 6 };
+enum { ROW = 2, TAG = 7 };
+
+static uint8_t records[ROWSTORE_RECORDS_SIZE(ROWS, PLACES)];
+static uint8_t places[ROWSTORE_PLACES_SIZE(WIDTH, PLACES)];
+
+/* Ends the program unless the answer is the one that is due. */
+static void expect(const char *call, unsigned answer, unsigned due) {
+  if (answer != due) {
+    fprintf(stderr, "%s: answer %u, expected %u\n", call, answer, due);
+    exit(EXIT_FAILURE);
+  }
+}
+
+static void write_row(uint16_t tag, uint8_t byte) {
+  uint8_t bytes[WIDTH];
+  memset(bytes, byte, sizeof bytes);
+  expect("write",
+         rowstore_write(records, sizeof records, places, sizeof places, tag,
+                        ROW, bytes, sizeof bytes),
+         ROWSTORE_OK);
+  printf("write: version %u, row %d, bytes %02x\n", (unsigned)tag, ROW,
+         (unsigned)byte);
+}
+
+static void read_row(uint16_t tag, uint8_t byte) {
+  uint8_t due[WIDTH];
+  uint8_t out[WIDTH];
+  memset(due, byte, sizeof due);
+  expect("read",
+         rowstore_read(records, sizeof records, places, sizeof places, tag, ROW,
+                       out, sizeof out),
+         ROWSTORE_OK);
+  printf("read: version %u, row %d:", (unsigned)tag, ROW);
+  for (size_t i = 0; i < sizeof out; i++) {
+    printf(" %02x", (unsigned)out[i]);
+  }
+  printf("\n");
+  if (memcmp(out, due, sizeof out) != 0) {
+    fprintf(stderr, "read: expected %02x in every byte\n", (unsigned)byte);
+    exit(EXIT_FAILURE);
+  }
+}
+
+static void count(size_t used_due, size_t snapshots_due) {
+  size_t used;
+  size_t snapshots;
+  expect("count", rowstore_count(records, sizeof records, &used, &snapshots),
+         ROWSTORE_OK);
+  printf("count: %zu of %d places in use, snapshots: %zu\n", used, PLACES,
+         snapshots);
+  if (used != used_due || snapshots != snapshots_due) {
+    fprintf(stderr, "count: expected %zu and %zu\n", used_due, snapshots_due);
+    exit(EXIT_FAILURE);
+  }
+}
+
+/* The store has no row 4: the answer says so, and nothing changes. */
+static void refused_write(void) {
+  static uint8_t records_before[sizeof records];
+  static uint8_t places_before[sizeof places];
+  uint8_t bytes[WIDTH];
+  memset(bytes, 0xc3, sizeof bytes);
+  memcpy(records_before, records, sizeof records);
+  memcpy(places_before, places, sizeof places);
+  uint8_t answer =
+      rowstore_write(records, sizeof records, places, sizeof places,
+                     ROWSTORE_ORIGIN, ROWS, bytes, sizeof bytes);
+  expect("write to a row beyond the last", answer, ROWSTORE_BAD_ROW);
+  printf("write: version %d, row %d, refused with %u\n", ROWSTORE_ORIGIN, ROWS,
+         (unsigned)answer);
+  if (memcmp(records, records_before, sizeof records) != 0 ||
+      memcmp(places, places_before, sizeof places) != 0) {
+    fprintf(stderr, "write: refused, but the store has changed\n");
+    exit(EXIT_FAILURE);
+  }
+}
+
+int main(void) {
+  expect("open",
+         rowstore_open(records, sizeof records, places, sizeof places, ROWS,
+                       WIDTH, PLACES),
+         ROWSTORE_OK);
+  printf("open: %d rows of %d bytes in %d places\n", ROWS, WIDTH, PLACES);
+  printf("lent: %zu bytes of records, %zu of places\n", sizeof records,
+         sizeof places);
+  count(4, 0);
+
+  write_row(ROWSTORE_ORIGIN, 0xa1);
+  expect("snapshot",
+         rowstore_snapshot(records, sizeof records, ROWSTORE_ORIGIN, TAG),
+         ROWSTORE_OK);
+  printf("snapshot: version %d as %d\n", ROWSTORE_ORIGIN, TAG);
+  count(4, 1);
+
+  /* The origin and the snapshot share the row, so it takes a place more. */
+  write_row(ROWSTORE_ORIGIN, 0xb2);
+  read_row(ROWSTORE_ORIGIN, 0xb2);
+  read_row(TAG, 0xa1);
+  count(5, 1);
+
+  refused_write();
+
+  expect("delete", rowstore_delete(records, sizeof records, TAG), ROWSTORE_OK);
+  printf("delete: version %d\n", TAG);
+  read_row(ROWSTORE_ORIGIN, 0xb2);
+  count(4, 0);
+  return EXIT_SUCCESS;
+}

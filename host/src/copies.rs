@@ -1,0 +1,186 @@
+//! A store of full copies: every living version holds the bytes and a mark of each of its rows.
+
+use crate::store::answer::*;
+use std::collections::BTreeMap;
+
+/// A version's rows one after the other, and the mark of each.
+#[derive(Clone)]
+pub struct Version {
+    pub bytes: Vec<u8>,
+    pub marks: Vec<usize>,
+}
+
+pub struct Copies {
+    pub rows: usize,
+    pub width: usize,
+    pub places: usize,
+    versions: BTreeMap<u16, Version>,
+    next_mark: usize,
+}
+
+impl Copies {
+    /// Opens with zero bytes and a different mark for each of the origin's rows.
+    pub fn open(
+        records_len: usize,
+        places_len: usize,
+        rows: usize,
+        width: usize,
+        places: usize,
+    ) -> Result<Copies, u8> {
+        let measured = (1..=1024).contains(&rows)
+            && (1..=1024).contains(&width)
+            && (rows..=4096).contains(&places);
+        if !measured {
+            return Err(MEASURE);
+        }
+        if records_len != 518 + 3 * (places - rows) || places_len != places * width {
+            return Err(LENGTH);
+        }
+        let origin = Version {
+            bytes: vec![0; rows * width],
+            marks: (0..rows).collect(),
+        };
+        Ok(Copies::of(
+            rows,
+            width,
+            places,
+            BTreeMap::from([(0, origin)]),
+        ))
+    }
+
+    /// The copies that sound records from elsewhere start with: the marks are the places read.
+    pub fn of(
+        rows: usize,
+        width: usize,
+        places: usize,
+        versions: BTreeMap<u16, Version>,
+    ) -> Copies {
+        let highest = versions.values().flat_map(|v| v.marks.iter().copied());
+        let next_mark = highest.max().map_or(0, |mark| mark + 1);
+        Copies {
+            rows,
+            width,
+            places,
+            versions,
+            next_mark,
+        }
+    }
+
+    pub fn snapshot(&mut self, source: u16, tag: u16) -> u8 {
+        if tag == 0 {
+            return TAG_ZERO;
+        }
+        let Some(copied) = self.versions.get(&source) else {
+            return NO_VERSION;
+        };
+        if self.versions.contains_key(&tag) {
+            return TAG_ALIVE;
+        }
+        if self.snapshots() == 64 {
+            return SNAPSHOTS;
+        }
+        self.versions.insert(tag, copied.clone());
+        ACCEPTED
+    }
+
+    pub fn read(
+        &self,
+        places_len: usize,
+        tag: u16,
+        row: usize,
+        out_len: usize,
+    ) -> Result<&[u8], u8> {
+        self.row_refusal(places_len, tag, row, out_len)?;
+        Ok(self.row(tag, row))
+    }
+
+    pub fn write(&mut self, places_len: usize, tag: u16, row: usize, bytes: &[u8]) -> u8 {
+        if let Err(refusal) = self.row_refusal(places_len, tag, row, bytes.len()) {
+            return refusal;
+        }
+        if self.shared(tag, row) && self.places_in_use() == self.places {
+            return NO_PLACE;
+        }
+        let mark = self.next_mark;
+        self.next_mark += 1;
+        let stretch = self.stretch(row);
+        let version = self.versions.get_mut(&tag).expect("a living version");
+        version.bytes[stretch].copy_from_slice(bytes);
+        version.marks[row] = mark;
+        ACCEPTED
+    }
+
+    pub fn delete(&mut self, tag: u16) -> u8 {
+        if tag == 0 {
+            return ORIGIN;
+        }
+        match self.versions.remove(&tag) {
+            Some(_) => ACCEPTED,
+            None => NO_VERSION,
+        }
+    }
+
+    /// Places in use and snapshots alive.
+    pub fn count(&self) -> (usize, usize) {
+        (self.places_in_use(), self.snapshots())
+    }
+
+    /// Whether two living versions share a row.
+    pub fn shares(&self, tag_a: u16, tag_b: u16, row: usize) -> bool {
+        self.versions[&tag_a].marks[row] == self.versions[&tag_b].marks[row]
+    }
+
+    /// Whether any other living version shares the row with this one.
+    pub fn shared(&self, tag: u16, row: usize) -> bool {
+        let mut others = self.versions.keys().filter(|&&other| other != tag);
+        others.any(|&other| self.shares(tag, other, row))
+    }
+
+    pub fn tags(&self) -> Vec<u16> {
+        self.versions.keys().copied().collect()
+    }
+
+    /// The bytes of a living version's row.
+    pub fn row(&self, tag: u16, row: usize) -> &[u8] {
+        &self.versions[&tag].bytes[self.stretch(row)]
+    }
+
+    /// What read and write test alike: lengths, then the row, then the tag.
+    fn row_refusal(
+        &self,
+        places_len: usize,
+        tag: u16,
+        row: usize,
+        row_len: usize,
+    ) -> Result<(), u8> {
+        if places_len != self.places * self.width || row_len != self.width {
+            return Err(LENGTH);
+        }
+        if row >= self.rows {
+            return Err(ROW);
+        }
+        if !self.versions.contains_key(&tag) {
+            return Err(NO_VERSION);
+        }
+        Ok(())
+    }
+
+    fn stretch(&self, row: usize) -> std::ops::Range<usize> {
+        row * self.width..(row + 1) * self.width
+    }
+
+    fn snapshots(&self) -> usize {
+        self.versions.len() - 1
+    }
+
+    /// The number of different marks.
+    fn places_in_use(&self) -> usize {
+        let mut held = vec![false; self.next_mark];
+        for version in self.versions.values() {
+            for &mark in &version.marks {
+                held[mark] = true;
+            }
+        }
+        held.iter().filter(|&&held| held).count()
+    }
+}

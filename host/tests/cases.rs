@@ -1,0 +1,334 @@
+//! Worked cases, each on the store and on the full copies, with the answer that is expected.
+
+mod common;
+
+use common::tally::Tally;
+use common::trial::{Care, Measures, Trial};
+use rowstore_host::copies::Copies;
+use rowstore_host::judge::place_of;
+use rowstore_host::store::Store;
+
+const USUAL: Measures = Measures {
+    rows: 4,
+    width: 8,
+    places: 6,
+};
+
+for_each_store!(
+    measures_of_an_opening,
+    lengths_on_opening,
+    listed_cases,
+    printed_example,
+    steps_that_go_wrong,
+);
+
+/// Opens on marked bytes of the given lengths; a refusal must leave all of them.
+fn opening<S: Store>(measures: Measures, records_len: usize, places_len: usize) -> u8 {
+    let Measures {
+        rows,
+        width,
+        places,
+    } = measures;
+    let mut records = vec![0x77; records_len];
+    let mut row_bytes = vec![0x88; places_len];
+    let got = S::open(&mut records, &mut row_bytes, rows, width, places);
+    let wanted = Copies::open(records_len, places_len, rows, width, places).err();
+    assert_eq!(got, wanted.unwrap_or(0), "{}: {measures:?}", S::NAME);
+    if got != 0 {
+        let untouched = records.iter().all(|&b| b == 0x77) && row_bytes.iter().all(|&b| b == 0x88);
+        assert!(untouched, "{}: {measures:?} refused, bytes lost", S::NAME);
+    }
+    got
+}
+
+/// Every measure at, below and above its limits.
+fn measures_of_an_opening<S: Store>() {
+    let huge = usize::MAX;
+    let cases = [
+        ((0, 8, 6), 1),
+        ((1025, 8, 2000), 1),
+        ((1, 8, 6), 0),
+        ((1024, 8, 1024), 0),
+        ((4, 8, 3), 1),
+        ((4, 8, 4), 0),
+        ((4, 0, 6), 1),
+        ((4, 1, 6), 0),
+        ((4, 1024, 6), 0),
+        ((4, 1025, 6), 1),
+        ((4, 8, 4096), 0),
+        ((4, 8, 4097), 1),
+        ((1024, 1024, 4096), 0),
+        ((1024, 1, 1023), 1),
+        ((1, 1, 1), 0),
+        ((1, 1, 0), 1),
+        ((huge, 8, huge), 1),
+        ((4, huge, 6), 1),
+        ((4, 8, huge), 1),
+        ((65_540, 8, 65_542), 1),
+        ((4, 65_544, 6), 1),
+    ];
+    for ((rows, width, places), wanted) in cases {
+        let measures = Measures {
+            rows,
+            width,
+            places,
+        };
+        // Where the measures are out of bounds, lengths of some other store will do.
+        let fits = if wanted == 0 { measures } else { USUAL };
+        let got = opening::<S>(measures, fits.records_len(), fits.places_len());
+        assert_eq!(got, wanted, "{}: {measures:?}", S::NAME);
+    }
+    println!("openings, {}: {} measures tried", S::NAME, cases.len());
+}
+
+/// Both buffers at other lengths; a wrong measure goes before a wrong length.
+fn lengths_on_opening<S: Store>() {
+    let (records_len, places_len) = (USUAL.records_len(), USUAL.places_len());
+    let mut tried = 0;
+    for measures in [
+        USUAL,
+        Measures { places: 4, ..USUAL },
+        Measures { rows: 1, ..USUAL },
+    ] {
+        let (records_len, places_len) = (measures.records_len(), measures.places_len());
+        let wrong_records = (0..records_len).chain(records_len + 1..records_len + 40);
+        for len in wrong_records {
+            assert_eq!(opening::<S>(measures, len, places_len), 2, "records {len}");
+            tried += 1;
+        }
+        let wrong_places = (0..places_len).chain(places_len + 1..places_len + 40);
+        for len in wrong_places {
+            assert_eq!(opening::<S>(measures, records_len, len), 2, "places {len}");
+            tried += 1;
+        }
+        assert_eq!(opening::<S>(measures, 0, 0), 2);
+    }
+    for measures in [
+        Measures { rows: 0, ..USUAL },
+        Measures { width: 0, ..USUAL },
+        Measures { places: 3, ..USUAL },
+    ] {
+        assert_eq!(opening::<S>(measures, records_len - 1, places_len + 1), 1);
+        tried += 1;
+    }
+    println!("openings, {}: {tried} wrong lengths tried", S::NAME);
+}
+
+/// A trial at the usual measures.
+fn usual<S: Store>(title: &str) -> Trial<S> {
+    Trial::open(title, USUAL, Care::Whole)
+}
+
+fn listed_cases<S: Store>() {
+    let cases: [fn() -> Tally; 6] = [
+        rows_after_opening::<S>,
+        tags_of_a_snapshot::<S>,
+        write_above_a_reader::<S>,
+        full_store::<S>,
+        no_snapshot_places::<S>,
+        sixty_four_snapshots::<S>,
+    ];
+    let answers = [0, 3, 4, 21, 22, 23, 24];
+    run_cases(&format!("listed cases, {}", S::NAME), &cases, &answers);
+}
+
+/// Runs the cases, and requires that all the answers were seen.
+fn run_cases(title: &str, cases: &[fn() -> Tally], answers: &[u8]) {
+    let mut tally = Tally::default();
+    cases.iter().for_each(|case| tally.add(&case()));
+    tally.print(title);
+    tally.require(title, answers);
+}
+
+fn rows_after_opening<S: Store>() -> Tally {
+    let mut trial = usual::<S>("rows after opening");
+    assert_eq!(trial.read(0, 3), 0);
+    assert_eq!(trial.copies.row(0, 3), [0; 8]);
+    assert_eq!(trial.read(0, 4), 3);
+    trial.tally
+}
+
+fn tags_of_a_snapshot<S: Store>() -> Tally {
+    let mut trial = usual::<S>("tags of a snapshot");
+    assert_eq!(trial.snapshot(0, 0), 4);
+    assert_eq!(trial.snapshot(9, 9), 21);
+    assert_eq!(trial.snapshot(0, 9), 0);
+    assert_eq!(trial.snapshot(9, 9), 22);
+    trial.tally
+}
+
+fn write_above_a_reader<S: Store>() -> Tally {
+    let mut trial = usual::<S>("write above a reader");
+    assert_eq!(trial.snapshot(0, 7), 0);
+    assert_eq!(trial.snapshot(7, 8), 0);
+    assert_eq!(trial.write(7, 0, 0x71), 0);
+    assert_eq!(trial.read(8, 0), 0);
+    assert_eq!(trial.copies.row(8, 0), [0; 8]);
+    assert_eq!(place_of(trial.records(), 8, 0), Some(0));
+    assert_eq!(trial.copies.count(), (5, 2));
+    assert_eq!(trial.delete(8), 0);
+    assert_eq!(trial.read(7, 0), 0);
+    assert_eq!(trial.copies.row(7, 0), [0x71; 8]);
+    assert_eq!(trial.copies.count(), (5, 1));
+    trial.tally
+}
+
+fn full_store<S: Store>() -> Tally {
+    let mut trial = usual::<S>("full store");
+    assert_eq!(trial.snapshot(0, 7), 0);
+    assert_eq!(trial.write(7, 0, 0x70), 0);
+    assert_eq!(trial.write(7, 1, 0x71), 0);
+    assert_eq!(trial.write(7, 2, 0x72), 24);
+    assert_eq!(trial.write(7, 0, 0x73), 0);
+    assert_eq!(trial.write(0, 2, 0x02), 24);
+    assert_eq!(trial.write(0, 0, 0x01), 0);
+    assert_eq!(trial.delete(7), 0);
+    assert_eq!(trial.snapshot(0, 9), 0);
+    assert_eq!(trial.write(9, 2, 0x92), 0);
+    trial.tally
+}
+
+fn no_snapshot_places<S: Store>() -> Tally {
+    let measures = Measures { places: 4, ..USUAL };
+    let mut trial = Trial::<S>::open("no snapshot places", measures, Care::Whole);
+    assert_eq!(trial.snapshot(0, 7), 0);
+    for row in 0..4 {
+        assert_eq!(trial.write(0, row, 1), 24);
+        assert_eq!(trial.write(7, row, 1), 24);
+    }
+    assert_eq!(trial.delete(7), 0);
+    for row in 0..4 {
+        assert_eq!(trial.write(0, row, 1), 0);
+        assert_eq!(trial.write(7, row, 1), 21);
+    }
+    trial.tally
+}
+
+fn sixty_four_snapshots<S: Store>() -> Tally {
+    let mut trial = usual::<S>("sixty-four snapshots");
+    for tag in 1..=64 {
+        assert_eq!(trial.snapshot(0, tag), 0);
+    }
+    assert_eq!(trial.snapshot(0, 65), 23);
+    assert_eq!(trial.snapshot(64, 65), 23);
+    assert_eq!(trial.delete(30), 0);
+    assert_eq!(trial.snapshot(0, 65), 0);
+    trial.tally
+}
+
+/// The example of the program `shelf`, as calls.
+fn printed_example<S: Store>() {
+    let mut trial = usual::<S>("printed example");
+    assert_eq!(trial.snapshot(0, 7), 0);
+    assert_eq!(trial.write(0, 2, 0xa1), 0);
+    assert_eq!(trial.read(7, 2), 0);
+    assert_eq!(trial.copies.row(7, 2), [0; 8]);
+    assert_eq!(trial.read(0, 2), 0);
+    assert_eq!(trial.copies.row(0, 2), [0xa1; 8]);
+    assert_eq!(trial.copies.count(), (5, 1));
+    assert_eq!(trial.delete(7), 0);
+    assert_eq!(trial.copies.count(), (4, 0));
+    assert_eq!(trial.read(7, 0), 21);
+    let title = format!("printed example, {}", S::NAME);
+    trial.tally.print(&title);
+    trial.tally.require(&title, &[0, 21]);
+}
+
+/// Histories in which a step of the 2009 paper, taken as printed, loses a row or keeps a dead one.
+fn steps_that_go_wrong<S: Store>() {
+    let cases: [fn() -> Tally; 6] = [
+        ghost_row_without_readers::<S>,
+        rows_above_a_new_ghost::<S>,
+        own_row_first::<S>,
+        entry_under_a_child_with_its_own::<S>,
+        origin_row_that_no_snapshot_reads::<S>,
+        row_read_through_a_ghost_alone::<S>,
+    ];
+    let title = format!("steps that go wrong, {}", S::NAME);
+    run_cases(&title, &cases, &[0]);
+}
+
+fn roomy<S: Store>(title: &str) -> Trial<S> {
+    let measures = Measures {
+        places: 20,
+        ..USUAL
+    };
+    Trial::open(title, measures, Care::Whole)
+}
+
+fn accepted(answers: &[u8]) {
+    assert!(answers.iter().all(|&answer| answer == 0), "{answers:?}");
+}
+
+/// Every version below a ghost writes its own row; the ghost's goes.
+fn ghost_row_without_readers<S: Store>() -> Tally {
+    let mut trial = roomy::<S>("ghost's row without readers");
+    accepted(&[trial.snapshot(0, 1), trial.write(1, 0, 1)]);
+    accepted(&[trial.snapshot(1, 2), trial.snapshot(1, 3)]);
+    accepted(&[trial.delete(1), trial.write(2, 0, 2)]);
+    assert_eq!(trial.copies.count(), (6, 2));
+    accepted(&[trial.write(3, 0, 3)]);
+    assert_eq!(trial.copies.count(), (6, 2));
+    trial.tally
+}
+
+/// A version with two children that have their own rows parts: its row and its ghost's go.
+fn rows_above_a_new_ghost<S: Store>() -> Tally {
+    let mut trial = roomy::<S>("rows above a new ghost");
+    accepted(&[trial.snapshot(0, 1), trial.write(1, 0, 1)]);
+    accepted(&[trial.write(1, 1, 1), trial.snapshot(1, 2)]);
+    accepted(&[trial.snapshot(1, 3), trial.write(3, 0, 3)]);
+    accepted(&[trial.write(3, 1, 3), trial.write(2, 0, 2)]);
+    accepted(&[trial.snapshot(2, 4), trial.snapshot(2, 5)]);
+    accepted(&[trial.write(4, 0, 4), trial.write(5, 0, 5)]);
+    accepted(&[trial.write(4, 1, 4), trial.write(5, 1, 5)]);
+    accepted(&[trial.delete(1), trial.delete(2)]);
+    assert_eq!(trial.copies.count(), (10, 3));
+    trial.tally
+}
+
+/// A version reads its own row before any above it.
+fn own_row_first<S: Store>() -> Tally {
+    let mut trial = roomy::<S>("own row first");
+    accepted(&[trial.snapshot(0, 1), trial.write(1, 0, 1)]);
+    accepted(&[trial.snapshot(1, 2), trial.write(2, 0, 2)]);
+    accepted(&[trial.read(2, 0), trial.read(1, 0)]);
+    assert_eq!(trial.copies.row(2, 0), [2; 8]);
+    trial.tally
+}
+
+/// A version parts whose one child has its own row; another row is passed on.
+fn entry_under_a_child_with_its_own<S: Store>() -> Tally {
+    let mut trial = roomy::<S>("entry under a child with its own");
+    accepted(&[trial.snapshot(0, 1), trial.write(1, 0, 1)]);
+    accepted(&[trial.write(1, 1, 1), trial.snapshot(1, 2)]);
+    accepted(&[trial.write(2, 0, 2), trial.delete(1)]);
+    assert_eq!(trial.copies.count(), (6, 1));
+    assert_eq!(trial.copies.row(2, 1), [1; 8]);
+    trial.tally
+}
+
+/// The origin's row is saved for nobody if all snapshots have their own.
+fn origin_row_that_no_snapshot_reads<S: Store>() -> Tally {
+    let mut trial = roomy::<S>("origin's row that no snapshot reads");
+    accepted(&[trial.snapshot(0, 1), trial.snapshot(1, 2)]);
+    accepted(&[trial.snapshot(1, 3), trial.write(2, 0, 2)]);
+    accepted(&[trial.write(3, 0, 3), trial.delete(1)]);
+    accepted(&[trial.write(0, 0, 9)]);
+    assert_eq!(trial.copies.count(), (6, 2));
+    trial.tally
+}
+
+/// One version alone still reads a ghost's row, and writes it in its place; then it parts.
+fn row_read_through_a_ghost_alone<S: Store>() -> Tally {
+    let mut trial = roomy::<S>("row read through a ghost alone");
+    accepted(&[trial.snapshot(0, 1), trial.write(1, 0, 1)]);
+    accepted(&[trial.snapshot(1, 2), trial.snapshot(1, 3)]);
+    accepted(&[trial.snapshot(1, 4), trial.delete(1)]);
+    accepted(&[trial.write(2, 0, 2), trial.write(3, 0, 3)]);
+    accepted(&[trial.write(4, 0, 4)]);
+    assert_eq!(trial.copies.count(), (7, 3));
+    accepted(&[trial.delete(4)]);
+    assert_eq!(trial.copies.count(), (6, 2));
+    trial.tally
+}

@@ -1,0 +1,384 @@
+//! A store under trial, with its lent bytes and its full copies.
+
+use super::calls::{read, Call, Habit, Outcome};
+use super::tally::Tally;
+use rowstore_host::copies::{Copies, Version};
+use rowstore_host::dice::Dice;
+use rowstore_host::judge::Records;
+use rowstore_host::store::{answer, Store};
+use std::fmt::Debug;
+use std::marker::PhantomData;
+
+/// Bytes kept behind the records and the places, to lend too many.
+pub const SPARE: usize = 3;
+
+/// How much is compared after each call.
+#[derive(Clone, Copy)]
+pub enum Care {
+    /// Everything.
+    Whole,
+    /// Some rows; the records are judged now and then.
+    Sample { rows: usize, judge_every: usize },
+}
+
+#[derive(Clone, Copy, Debug)]
+pub struct Measures {
+    pub rows: usize,
+    pub width: usize,
+    pub places: usize,
+}
+
+impl Measures {
+    pub fn records_len(&self) -> usize {
+        518 + 3 * (self.places - self.rows)
+    }
+
+    pub fn places_len(&self) -> usize {
+        self.places * self.width
+    }
+}
+
+pub struct Trial<S> {
+    title: String,
+    measures: Measures,
+    records: Vec<u8>,
+    places: Vec<u8>,
+    pub copies: Copies,
+    pub tally: Tally,
+    care: Care,
+    dice: Dice,
+    made: usize,
+    /// The tag of the last snapshot taken.
+    pub latest: u16,
+    store: PhantomData<S>,
+}
+
+/// The copies that sound records from elsewhere start with.
+pub fn adopted(records: &Records, places: &[u8]) -> Copies {
+    let (rows, width) = (records.rows, records.width);
+    let version = |tag: u16| {
+        let place = |row| records.place_of(tag, row).expect("a place for every row");
+        let marks: Vec<usize> = (0..rows).map(place).collect();
+        let row_bytes = |&place: &usize| &places[place * width..(place + 1) * width];
+        let bytes = marks.iter().flat_map(row_bytes).copied().collect();
+        (tag, Version { bytes, marks })
+    };
+    let versions = records.tags().into_iter().map(version).collect();
+    Copies::of(rows, width, records.places, versions)
+}
+
+impl<S: Store> Trial<S> {
+    /// Opens on dirty bytes.
+    pub fn open(title: &str, measures: Measures, care: Care) -> Trial<S> {
+        let mut records = vec![0xa5; measures.records_len() + SPARE];
+        let mut places = vec![0x5a; measures.places_len() + SPARE];
+        let lent_records = &mut records[..measures.records_len()];
+        let lent_places = &mut places[..measures.places_len()];
+        let Measures { rows, width, .. } = measures;
+        let opened = S::open(lent_records, lent_places, rows, width, measures.places);
+        assert_eq!(opened, 0, "{title}: opening {measures:?}");
+        let zero = lent_places.iter().all(|&byte| byte == 0);
+        assert!(zero, "{title}: opened places are not zero");
+        let (records_len, places_len) = (measures.records_len(), measures.places_len());
+        let copies = Copies::open(records_len, places_len, rows, width, measures.places)
+            .expect("copies open as the store does");
+        let mut trial = Trial::on(title, measures, care, copies);
+        (trial.records, trial.places) = (records, places);
+        trial.compare_all(1);
+        trial
+    }
+
+    /// Goes on from sound records and their places.
+    pub fn adopt(title: &str, records: &[u8], places: &[u8]) -> Trial<S> {
+        let parsed = Records::of(records).expect("records of a fitting length");
+        let measures = Measures {
+            rows: parsed.rows,
+            width: parsed.width,
+            places: parsed.places,
+        };
+        let copies = adopted(&parsed, places);
+        let mut trial = Trial::on(title, measures, Care::Whole, copies);
+        trial.records = [records, &[0; SPARE]].concat();
+        trial.places = [places, &[0; SPARE]].concat();
+        trial.compare_all(1);
+        trial
+    }
+
+    fn on(title: &str, measures: Measures, care: Care, copies: Copies) -> Trial<S> {
+        Trial {
+            title: title.to_string(),
+            measures,
+            records: Vec::new(),
+            places: Vec::new(),
+            copies,
+            tally: Tally::of_one(),
+            care,
+            dice: Dice::new(1),
+            made: 0,
+            latest: 0,
+            store: PhantomData,
+        }
+    }
+
+    pub fn records(&self) -> &[u8] {
+        &self.records[..self.measures.records_len()]
+    }
+
+    pub fn places(&self) -> &[u8] {
+        &self.places[..self.measures.places_len()]
+    }
+
+    /// The records taken apart by the judge.
+    pub fn parsed(&self) -> Records {
+        Records::of(self.records()).expect("records of a fitting length")
+    }
+
+    pub fn snapshot(&mut self, source: u16, tag: u16) -> u8 {
+        self.call(&Call::Snapshot { source, tag })
+    }
+
+    pub fn read(&mut self, tag: u16, row: usize) -> u8 {
+        self.call(&Call::Read {
+            tag,
+            row,
+            places_len: self.measures.places_len(),
+            out_len: self.measures.width,
+        })
+    }
+
+    /// Writes a row full of one byte.
+    pub fn write(&mut self, tag: u16, row: usize, byte: u8) -> u8 {
+        self.call(&Call::Write {
+            tag,
+            row,
+            places_len: self.measures.places_len(),
+            bytes: vec![byte; self.measures.width],
+        })
+    }
+
+    pub fn delete(&mut self, tag: u16) -> u8 {
+        self.call(&Call::Delete { tag })
+    }
+
+    /// Draws calls, and now and then lends records of a wrong length.
+    pub fn draw(&mut self, dice: &mut Dice, habit: &Habit) {
+        for _ in 0..habit.calls {
+            let call = habit.draw(dice, &self.copies, self.latest);
+            if dice.chance(3) {
+                let right = self.measures.records_len();
+                let wrong = [0, 517, right - 1, right + 1, right + SPARE];
+                self.misfit(&call, dice.pick(&wrong));
+            }
+            self.call(&call);
+        }
+    }
+
+    /// Makes the call on store and copies, and compares.
+    pub fn call(&mut self, call: &Call) -> u8 {
+        self.made += 1;
+        let before = (self.records.clone(), self.places.clone());
+        self.note_shape(call);
+        let own_place = self.unshared_place(call);
+        let wanted = call.on_copies(&mut self.copies);
+        let len = self.measures.records_len();
+        let got = call.on_store::<S>(&mut self.records[..len], &mut self.places);
+        self.check(&got, &wanted, call, "the answer");
+        self.tally.call(call.name(), got.answer);
+        if got.answer != 0 || !call.changes_records() {
+            self.check(&self.records, &before.0, call, "the records lent");
+        }
+        match call {
+            Call::Write { tag, row, .. } if got.answer == 0 => {
+                self.check_written(call, (*tag, *row), &before, own_place)
+            }
+            _ => self.check(&self.places, &before.1, call, "the places lent"),
+        }
+        self.tally.untouched += 1;
+        if let (Call::Snapshot { tag, .. }, 0) = (call, got.answer) {
+            self.latest = *tag;
+        }
+        self.compare();
+        got.answer
+    }
+
+    /// Makes the call with records of a wrong length, which is 20 before all else.
+    pub fn misfit(&mut self, call: &Call, records_len: usize) {
+        self.made += 1;
+        let before = (self.records.clone(), self.places.clone());
+        let got = call.on_store::<S>(&mut self.records[..records_len], &mut self.places);
+        let wanted = Outcome::plain(answer::UNSOUND);
+        self.check(&got, &wanted, call, "the answer to misfit records");
+        self.check(&self.records, &before.0, call, "the misfit records lent");
+        self.check(&self.places, &before.1, call, "the places lent");
+        self.tally.call(call.name(), got.answer);
+        self.tally.untouched += 1;
+    }
+
+    fn at(&self) -> String {
+        format!("{} ({}), call {}", self.title, S::NAME, self.made)
+    }
+
+    fn check<T: PartialEq + Debug + ?Sized>(&self, got: &T, wanted: &T, call: &Call, what: &str) {
+        if got != wanted {
+            let (mut got, mut wanted) = (format!("{got:?}"), format!("{wanted:?}"));
+            got.truncate(600);
+            wanted.truncate(600);
+            panic!("{}: {what}: got {got}, not {wanted}; {call:?}", self.at());
+        }
+    }
+
+    /// Counts what kind of node an accepted delete will take away.
+    fn note_shape(&mut self, call: &Call) {
+        let Call::Delete { tag } = *call else { return };
+        if tag == 0 || !self.copies.tags().contains(&tag) {
+            return;
+        }
+        let records = self.parsed();
+        let node = records.node_of(tag).expect("a living version's node");
+        let above = records.parent(node);
+        let shape = match (records.children(node), records.is_ghost(above)) {
+            (0, false) => "leaf",
+            (0, true) if records.children(above) == 2 => "leaf, its ghost goes too",
+            (0, true) => "leaf, its ghost stays",
+            (1, false) => "node with one child",
+            (1, true) => "node with one child under a ghost",
+            (_, false) => "node with several children",
+            (_, true) => "node with several children under a ghost",
+        };
+        self.tally.delete(shape);
+    }
+
+    /// The place in which a write must stay: the one of a row that no other version shares.
+    fn unshared_place(&self, call: &Call) -> Option<usize> {
+        let Call::Write { tag, row, .. } = *call else {
+            return None;
+        };
+        let known = self.copies.tags().contains(&tag) && row < self.measures.rows;
+        if !known || self.copies.shared(tag, row) {
+            return None;
+        }
+        self.parsed().place_of(tag, row)
+    }
+
+    /// An accepted write changes the row's place, and one that was free; no other byte.
+    fn check_written(
+        &self,
+        call: &Call,
+        (tag, row): (u16, usize),
+        (records, places): &(Vec<u8>, Vec<u8>),
+        own_place: Option<usize>,
+    ) {
+        let after = self.parsed();
+        let place = after.place_of(tag, row).expect("a place for the row");
+        let mut filled = vec![place];
+        match own_place {
+            Some(own) => self.check(&place, &own, call, "the place of an unshared row"),
+            None => {
+                let before = Records::of(&records[..self.measures.records_len()]);
+                let free = before.expect("records of a fitting length").free_places();
+                let still = after.free_places();
+                filled.extend(free.iter().filter(|place| !still.contains(place)));
+                self.check(&free.len(), &(still.len() + 1), call, "the places free");
+            }
+        }
+        let width = self.measures.width;
+        let mut wanted = places.clone();
+        for place in filled {
+            let stretch = place * width..(place + 1) * width;
+            wanted[stretch.clone()].copy_from_slice(&self.places[stretch]);
+        }
+        self.check(&self.places, &wanted, call, "the places not written");
+    }
+
+    fn compare(&mut self) {
+        match self.care {
+            Care::Whole => self.compare_all(1),
+            Care::Sample { rows, judge_every } => {
+                let records = self.parsed();
+                for _ in 0..rows {
+                    let tag = self.dice.pick(&self.copies.tags());
+                    let row = self.dice.below(self.measures.rows);
+                    self.compare_row(tag, row);
+                    self.compare_sharing(&records, row);
+                }
+                if self.made.is_multiple_of(judge_every) {
+                    self.judge(&records);
+                    self.compare_count();
+                }
+            }
+        }
+    }
+
+    /// Compares all of it; the store reads every `stride`-th row, the judge every one.
+    pub fn compare_all(&mut self, stride: usize) {
+        let records = self.parsed();
+        self.judge(&records);
+        for row in 0..self.measures.rows {
+            self.compare_sharing(&records, row);
+        }
+        for tag in self.copies.tags() {
+            for row in 0..self.measures.rows {
+                self.compare_place(&records, tag, row);
+            }
+            for row in (0..self.measures.rows).step_by(stride) {
+                self.compare_row(tag, row);
+            }
+        }
+        self.compare_count();
+    }
+
+    fn compare_row(&mut self, tag: u16, row: usize) {
+        let got = read::<S>(self.records(), self.places(), tag, row, self.measures.width);
+        let wanted = self.copies.row(tag, row);
+        let same = got.answer == 0 && got.row == wanted;
+        let at = self.at();
+        assert!(same, "{at}: tag {tag} row {row}: {got:?}, not {wanted:?}");
+        self.tally.rows += 1;
+    }
+
+    /// The bytes that lie in the place that the judge finds.
+    fn compare_place(&mut self, records: &Records, tag: u16, row: usize) {
+        let place = records.place_of(tag, row).expect("a place for every row");
+        let width = self.measures.width;
+        let got = &self.places[place * width..(place + 1) * width];
+        let same = got == self.copies.row(tag, row);
+        assert!(same, "{}: tag {tag} row {row}, place {place}", self.at());
+        self.tally.rows += 1;
+    }
+
+    /// Two versions read a row in one place exactly if they hold the same mark.
+    fn compare_sharing(&mut self, records: &Records, row: usize) {
+        let tags = self.copies.tags();
+        let places: Vec<_> = tags.iter().map(|&t| records.place_of(t, row)).collect();
+        for a in 0..tags.len() {
+            for b in a + 1..tags.len() {
+                let together = places[a] == places[b];
+                let share = self.copies.shares(tags[a], tags[b], row);
+                let (one, two) = (tags[a], tags[b]);
+                assert_eq!(together, share, "{}: {one}, {two} at {row}", self.at());
+            }
+        }
+        self.tally.pairs += tags.len() * (tags.len() - 1) / 2;
+    }
+
+    fn compare_count(&mut self) {
+        let (used, snapshots) = self.copies.count();
+        let got = S::count(self.records());
+        assert_eq!(got, (0, used, snapshots), "{}: the count", self.at());
+        self.tally.counts += 1;
+        self.tally.snapshots = self.tally.snapshots.max(snapshots);
+        self.tally.full += (used == self.measures.places) as usize;
+    }
+
+    fn judge(&mut self, records: &Records) {
+        assert!(records.sound(), "{}: records not sound", self.at());
+        let mut tags = records.tags();
+        tags.sort();
+        assert_eq!(tags, self.copies.tags(), "{}: the tags alive", self.at());
+        self.tally.judged += 1;
+        self.tally.ghosts = self.tally.ghosts.max(records.ghosts());
+        let nodes = tags.iter().filter_map(|&tag| records.node_of(tag));
+        let depth = nodes.map(|node| records.depth(node)).max().unwrap_or(0);
+        self.tally.depth = self.tally.depth.max(depth);
+    }
+}

@@ -1,0 +1,186 @@
+//! Drawn lists of calls, compared with the full copies after every call.
+
+mod common;
+
+use common::calls::{Habit, Source};
+use common::tally::Tally;
+use common::trial::{Care, Measures, Trial};
+use rowstore_host::dice::Dice;
+use rowstore_host::store::Store;
+
+const SMALL_SEEDS: u64 = 1200;
+/// At the end of a large history the store reads every row; a larger stride reads fewer.
+const STRIDE: usize = 1;
+
+const HABITS: [Habit; 5] = [
+    Habit {
+        name: "mixed",
+        weights: [20, 15, 40, 15, 10],
+        source: Source::Any,
+        highest_tag: 9,
+        calls: 120,
+    },
+    Habit {
+        name: "deep",
+        weights: [30, 5, 40, 15, 5],
+        source: Source::Latest,
+        highest_tag: 14,
+        calls: 120,
+    },
+    Habit {
+        name: "wide",
+        weights: [30, 5, 40, 20, 5],
+        source: Source::Origin,
+        highest_tag: 12,
+        calls: 120,
+    },
+    Habit {
+        name: "pruned",
+        weights: [25, 3, 40, 30, 2],
+        source: Source::Any,
+        highest_tag: 7,
+        calls: 150,
+    },
+    Habit {
+        name: "written",
+        weights: [10, 5, 75, 5, 5],
+        source: Source::Any,
+        highest_tag: 6,
+        calls: 120,
+    },
+];
+
+/// Tries to go beyond 64 snapshots.
+const MANY: Habit = Habit {
+    name: "many",
+    weights: [60, 5, 27, 3, 5],
+    source: Source::Any,
+    highest_tag: 99,
+    calls: 220,
+};
+
+/// What deletes must have met; when ghosts are made is the store's choice, so large histories, which
+/// are few, must meet the first four only.
+const SHAPES: [&str; 7] = [
+    "leaf",
+    "leaf, its ghost goes too",
+    "leaf, its ghost stays",
+    "node with one child",
+    "node with one child under a ghost",
+    "node with several children",
+    "node with several children under a ghost",
+];
+
+const REFUSALS: [u8; 9] = [2, 3, 4, 5, 20, 21, 22, 23, 24];
+
+for_each_store!(small_stores, large_stores, deep_chains);
+
+/// Many seeds at small measures; everything is compared after every call.
+fn small_stores<S: Store>() {
+    let mut tally = Tally::default();
+    for seed in 0..SMALL_SEEDS {
+        let mut dice = Dice::new(seed);
+        let habit = match seed % 24 {
+            0 => MANY,
+            number => HABITS[number as usize % HABITS.len()],
+        };
+        let rows = dice.between(1, 4);
+        let measures = Measures {
+            rows,
+            width: dice.pick(&[1, 2, 8]),
+            places: rows + dice.pick(&[0, 1, 2, 3, 4, 6, 8, 12, 20]),
+        };
+        let title = format!("seed {seed}, {}, {measures:?}", habit.name);
+        let mut trial = Trial::<S>::open(&title, measures, Care::Whole);
+        trial.draw(&mut dice, &habit);
+        tally.add(&trial.tally);
+    }
+    let title = format!(
+        "small histories, {}, seeds 0 to {}",
+        S::NAME,
+        SMALL_SEEDS - 1
+    );
+    tally.print(&title);
+    tally.require(&title, &REFUSALS);
+    tally.require_deletes(&title, &SHAPES);
+    assert!(tally.snapshots == 64 && tally.ghosts >= 4, "{title}");
+}
+
+/// The largest measures: a sample after every call, and everything at the end.
+fn large_stores<S: Store>() {
+    let stores = [
+        (1024, 128, 4096, 6500),
+        (1024, 2, 1024, 300),
+        (1, 16, 4096, 900),
+        (64, 1024, 256, 900),
+        (1024, 1024, 4096, 300),
+    ];
+    let mut tally = Tally::default();
+    for (seed, (rows, width, places, calls)) in stores.into_iter().enumerate() {
+        let measures = Measures {
+            rows,
+            width,
+            places,
+        };
+        let mut dice = Dice::new(seed as u64);
+        let habit = Habit {
+            weights: [14, 3, 78, 3, 2],
+            highest_tag: 99,
+            calls,
+            ..MANY
+        };
+        let care = Care::Sample {
+            rows: 2,
+            judge_every: 100,
+        };
+        let title = format!("seed {seed}, large, {measures:?}");
+        let mut trial = Trial::<S>::open(&title, measures, care);
+        trial.draw(&mut dice, &habit);
+        trial.compare_all(STRIDE);
+        tally.add(&trial.tally);
+    }
+    let title = format!("large histories, {}, seeds 0 to 4", S::NAME);
+    tally.print(&title);
+    tally.require(&title, &REFUSALS);
+    tally.require_deletes(&title, &SHAPES[..4]);
+    assert!(tally.snapshots == 64 && tally.full > 0, "{title}");
+}
+
+/// Chains of 64 snapshots, each of the one before, taken down in three orders.
+fn deep_chains<S: Store>() {
+    let measures = Measures {
+        rows: 2,
+        width: 4,
+        places: 140,
+    };
+    let mut tally = Tally::default();
+    for order in ["from the top", "from the bottom", "drawn"] {
+        let title = format!("seed 7, chain, {order}");
+        let mut dice = Dice::new(7);
+        let mut trial = Trial::<S>::open(&title, measures, Care::Whole);
+        let mut tags: Vec<u16> = (1..=64).collect();
+        for &tag in &tags {
+            assert_eq!(trial.snapshot(tag - 1, tag), 0, "{title}");
+            assert_eq!(trial.write(tag, dice.below(2), tag as u8), 0, "{title}");
+        }
+        assert_eq!(trial.snapshot(64, 65), 23, "{title}");
+        for _ in 0..60 {
+            trial.write(dice.below(65) as u16, dice.below(2), dice.byte());
+        }
+        match order {
+            "from the top" => {}
+            "from the bottom" => tags.reverse(),
+            _ => tags.sort_by_key(|tag| tag.wrapping_mul(40_503)),
+        }
+        for tag in tags {
+            assert_eq!(trial.delete(tag), 0, "{title}");
+            assert_eq!(trial.delete(tag), 21, "{title}");
+        }
+        assert_eq!(trial.copies.count(), (2, 0), "{title}");
+        tally.add(&trial.tally);
+    }
+    let title = format!("deep chains, {}, seed 7", S::NAME);
+    tally.print(&title);
+    tally.require(&title, &[0, 21, 23]);
+    assert!(tally.depth >= 64, "{title}");
+}

@@ -1,0 +1,111 @@
+//! The layout document against the proved store: its example byte by byte, and its table of sizes.
+
+#![cfg(feature = "linked")]
+
+use rowstore_host::store::answer::{ACCEPTED, LENGTH};
+use rowstore_host::store::{Proved, Store};
+
+const DOCUMENT: &str = include_str!("../../docs/LAYOUT.md");
+
+/// The lines of the document's only block of bytes.
+fn listing() -> Vec<&'static str> {
+    let blocks: Vec<&str> = DOCUMENT.split("\n```hex\n").skip(1).collect();
+    assert_eq!(blocks.len(), 1, "one block of bytes");
+    let (block, _) = blocks[0].split_once("\n```\n").expect("the block ends");
+    block.lines().collect()
+}
+
+/// The number that follows a buffer's name on a line of its own.
+fn heading(line: &str, name: &str) -> Option<usize> {
+    let length = line.strip_prefix(name)?.strip_prefix(' ')?;
+    Some(length.parse().expect("a length in base ten"))
+}
+
+/// All bytes of a buffer: those that the lines list, and zeros.
+fn listed(length: usize, lines: &[&str]) -> Vec<u8> {
+    let mut bytes = vec![0; length];
+    let mut free = 0;
+    assert!(!lines.is_empty(), "no bytes listed");
+    for line in lines {
+        let (offset, rest) = line.split_once(':').expect("an offset and a colon");
+        let mut at: usize = offset.trim().parse().expect("an offset in base ten");
+        assert!(at >= free, "listed twice or out of order: {line}");
+        let digits = rest.split(';').next().unwrap_or_default();
+        assert!(!digits.trim().is_empty(), "no bytes: {line}");
+        for pair in digits.split_whitespace() {
+            assert_eq!(pair.len(), 2, "two digits: {line}");
+            assert!(at < length, "beyond the last byte: {line}");
+            bytes[at] = u8::from_str_radix(pair, 16).expect("hexadecimal digits");
+            at += 1;
+        }
+        free = at;
+    }
+    bytes
+}
+
+/// The document's records and places.
+fn example() -> (Vec<u8>, Vec<u8>) {
+    let lines = listing();
+    let records_len = heading(lines[0], "records").expect("records come first");
+    let split = lines
+        .iter()
+        .position(|line| heading(line, "places").is_some())
+        .expect("places come second");
+    let places_len = heading(lines[split], "places").expect("a length");
+    (
+        listed(records_len, &lines[1..split]),
+        listed(places_len, &lines[split + 1..]),
+    )
+}
+
+/// L, B, P, the bytes of records and the bytes of places, from each line of the table of sizes.
+fn sizes() -> Vec<[usize; 5]> {
+    let (_, section) = DOCUMENT.split_once("\n## Sizes\n").expect("sizes");
+    let (section, _) = section.split_once("\n## ").expect("a section after it");
+    let lines = section.lines().filter(|line| line.starts_with('|')).skip(2);
+    lines
+        .map(|line| {
+            let cells = line.trim_matches('|').split('|').map(str::trim);
+            let numbers: Vec<usize> = cells.map(|n| n.parse().expect("a number")).collect();
+            numbers.try_into().expect("five numbers")
+        })
+        .collect()
+}
+
+#[test]
+fn example_in_full() {
+    let (wanted_records, wanted_places) = example();
+    assert_eq!(wanted_records.len(), 518 + 3 * (6 - 4));
+    assert_eq!(wanted_places.len(), 6 * 8);
+
+    // Whatever was in the buffers is gone after the opening.
+    let mut records = vec![0xff; wanted_records.len()];
+    let mut places = vec![0xff; wanted_places.len()];
+    let opened = Proved::open(&mut records, &mut places, 4, 8, 6);
+    let first = Proved::write(&mut records, &mut places, 0, 2, &[0xa1; 8]);
+    let taken = Proved::snapshot(&mut records, 0, 7);
+    let second = Proved::write(&mut records, &mut places, 0, 2, &[0xb2; 8]);
+    assert_eq!([opened, first, taken, second], [ACCEPTED; 4]);
+
+    assert_eq!(records, wanted_records);
+    assert_eq!(places, wanted_places);
+}
+
+#[test]
+fn sizes_of_stores() {
+    let sizes = sizes();
+    assert_eq!(sizes.len(), 6);
+    for [rows, width, count, records_len, places_len] in sizes {
+        let open = |records_len: usize, places_len: usize| {
+            let mut records = vec![0xff; records_len];
+            let mut places = vec![0xff; places_len];
+            Proved::open(&mut records, &mut places, rows, width, count)
+        };
+        let case = format!("L = {rows}, B = {width}, P = {count}");
+        assert_eq!(open(records_len, places_len), ACCEPTED, "{case}");
+        assert_eq!(open(records_len - 1, places_len), LENGTH, "{case}");
+        assert_eq!(open(records_len + 1, places_len), LENGTH, "{case}");
+        assert_eq!(open(records_len, places_len - 1), LENGTH, "{case}");
+        assert_eq!(open(records_len, places_len + 1), LENGTH, "{case}");
+    }
+}

@@ -1,0 +1,173 @@
+/* A store of rows with snapshots, in memory that the caller lends.
+ *
+ * A store has `rows` rows of `width` bytes each, and `count` places that hold
+ * one row each. Tag 0 names the origin, which is always there; tags 1 to 65535
+ * name snapshots. A snapshot shares its rows with its source; a shared row
+ * moves to a place of its own when one of them is written.
+ *
+ * Memory. The caller owns every buffer. All state of a store is in two of them,
+ * its records and its places; the library allocates nothing, has no global
+ * state and keeps no pointer once a call has returned. Stores are independent,
+ * and calls on different stores may run at the same time. Calls on one store
+ * may overlap in time only if all of them are reads and counts. A call needs
+ * less than 256 KiB of stack, whatever the size of the store.
+ *
+ * Pointers. No pointer may be NULL, even with length 0. The buffers of one call
+ * must not overlap. A buffer needs no alignment.
+ *
+ * Answers. Each call returns ROWSTORE_OK or the number of the first test that
+ * refused it, in the order given with the call. A refusal changes no byte of
+ * any buffer; only rowstore_count still sets its two numbers, to 0.
+ *
+ * Every call but rowstore_open judges the records first: bytes that are not
+ * those of a store are refused with ROWSTORE_UNSOUND, and so are records of the
+ * wrong length. docs/LAYOUT.md has their layout.
+ */
+#ifndef ROWSTORE_H
+#define ROWSTORE_H
+
+#include <stddef.h>
+#include <stdint.h>
+
+#ifdef __cplusplus
+extern "C" {
+#endif
+
+/* Answers. 1 to 5 come from the arguments, 20 to 24 from the store. */
+enum {
+  ROWSTORE_OK = 0,              /* accepted */
+  ROWSTORE_BAD_SIZE = 1,        /* rows, width or count out of its limits */
+  ROWSTORE_BAD_LENGTH = 2,      /* a buffer is too short or too long */
+  ROWSTORE_BAD_ROW = 3,         /* the store has no such row */
+  ROWSTORE_ZERO_TAG = 4,        /* a new snapshot under tag 0 */
+  ROWSTORE_ORIGIN_TAG = 5,      /* the origin cannot be deleted */
+  ROWSTORE_UNSOUND = 20,        /* the records are not those of a store */
+  ROWSTORE_UNKNOWN_TAG = 21,    /* no living version has the tag */
+  ROWSTORE_TAG_ALIVE = 22,      /* a living snapshot has the new tag */
+  ROWSTORE_SNAPSHOTS_FULL = 23, /* the most snapshots are alive */
+  ROWSTORE_PLACES_FULL = 24     /* a shared row, and no place is free */
+};
+
+/* Limits. Each measure is at least 1, and count at least rows. */
+#define ROWSTORE_MAX_ROWS 1024
+#define ROWSTORE_MAX_WIDTH 1024
+#define ROWSTORE_MAX_PLACES 4096
+#define ROWSTORE_MAX_SNAPSHOTS 64
+
+/* The tag of the origin. */
+#define ROWSTORE_ORIGIN 0
+
+/* Bytes of the records, for measures within their limits. */
+#define ROWSTORE_RECORDS_SIZE(rows, places)                                    \
+  ((size_t)518 + 3 * ((size_t)(places) - (size_t)(rows)))
+
+/* Bytes of the places, for measures within their limits. */
+#define ROWSTORE_PLACES_SIZE(width, places) ((size_t)(places) * (size_t)(width))
+
+/* Opens a store: every row of the origin is zero, there are no snapshots.
+ * What the buffers held before does not matter and is lost.
+ *
+ * records  filled; ROWSTORE_RECORDS_SIZE(rows, count) bytes
+ * places   filled with zeros; ROWSTORE_PLACES_SIZE(width, count) bytes
+ * rows     1 to ROWSTORE_MAX_ROWS
+ * width    bytes of a row, 1 to ROWSTORE_MAX_WIDTH
+ * count    places, rows to ROWSTORE_MAX_PLACES
+ *
+ * Both buffers stay the caller's, and are the store from now on: lend them,
+ * with the same lengths, to the calls below and change no byte in between.
+ *
+ * Refusals, in order:
+ *   ROWSTORE_BAD_SIZE    rows, width or count is out of its limits
+ *   ROWSTORE_BAD_LENGTH  places_len or records_len is wrong
+ */
+uint8_t rowstore_open(uint8_t *records, size_t records_len, uint8_t *places,
+                      size_t places_len, size_t rows, size_t width,
+                      size_t count);
+
+/* Takes a snapshot of a version. It takes no place yet and reads no places.
+ *
+ * records  changed
+ * source   the tag of a living version, ROWSTORE_ORIGIN or a snapshot
+ * tag      the new snapshot's tag, not 0; that of a deleted one will do
+ *
+ * Refusals, in order:
+ *   ROWSTORE_UNSOUND         the records are not sound
+ *   ROWSTORE_ZERO_TAG        tag is 0
+ *   ROWSTORE_UNKNOWN_TAG     no living version has the tag source
+ *   ROWSTORE_TAG_ALIVE       a living snapshot has the tag already
+ *   ROWSTORE_SNAPSHOTS_FULL  ROWSTORE_MAX_SNAPSHOTS snapshots are alive
+ */
+uint8_t rowstore_snapshot(uint8_t *records, size_t records_len, uint16_t source,
+                          uint16_t tag);
+
+/* Copies a row of a version to the caller's buffer.
+ *
+ * records  only read
+ * places   only read
+ * tag      the version
+ * row      the row, from 0
+ * out      filled with the row; as many bytes as a row has
+ *
+ * Refusals, in order:
+ *   ROWSTORE_UNSOUND      the records are not sound
+ *   ROWSTORE_BAD_LENGTH   places_len or out_len is wrong
+ *   ROWSTORE_BAD_ROW      the store has no such row
+ *   ROWSTORE_UNKNOWN_TAG  no living version has the tag
+ */
+uint8_t rowstore_read(const uint8_t *records, size_t records_len,
+                      const uint8_t *places, size_t places_len, uint16_t tag,
+                      size_t row, uint8_t *out, size_t out_len);
+
+/* Writes a row of a version. No other version's rows change. A row that
+ * another version shares takes one more place; any other is written where it
+ * is, even if no place is free.
+ *
+ * records  changed
+ * places   changed
+ * tag      the version, ROWSTORE_ORIGIN or a snapshot
+ * row      the row, from 0
+ * bytes    the new row, only read; as many bytes as a row has
+ *
+ * Refusals, in order:
+ *   ROWSTORE_UNSOUND      the records are not sound
+ *   ROWSTORE_BAD_LENGTH   places_len or bytes_len is wrong
+ *   ROWSTORE_BAD_ROW      the store has no such row
+ *   ROWSTORE_UNKNOWN_TAG  no living version has the tag
+ *   ROWSTORE_PLACES_FULL  the row is shared and every place is in use
+ */
+uint8_t rowstore_write(uint8_t *records, size_t records_len, uint8_t *places,
+                       size_t places_len, uint16_t tag, size_t row,
+                       const uint8_t *bytes, size_t bytes_len);
+
+/* Deletes a snapshot. Places that only it read are free again; their bytes
+ * stay as they are. Snapshots taken of it live on.
+ *
+ * records  changed
+ * tag      the snapshot
+ *
+ * Refusals, in order:
+ *   ROWSTORE_UNSOUND      the records are not sound
+ *   ROWSTORE_ORIGIN_TAG   tag is ROWSTORE_ORIGIN
+ *   ROWSTORE_UNKNOWN_TAG  no living snapshot has the tag
+ */
+uint8_t rowstore_delete(uint8_t *records, size_t records_len, uint16_t tag);
+
+/* Counts places in use and living snapshots.
+ *
+ * records    only read
+ * used       set to the places in use, the origin's included; 0 if refused
+ * snapshots  set to the snapshots alive; 0 if refused
+ *
+ * The two numbers are the caller's, as every buffer, and are apart.
+ *
+ * Refusals:
+ *   ROWSTORE_UNSOUND  the records are not sound
+ */
+uint8_t rowstore_count(const uint8_t *records, size_t records_len, size_t *used,
+                       size_t *snapshots);
+
+#ifdef __cplusplus
+}
+#endif
+
+#endif
