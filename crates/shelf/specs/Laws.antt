@@ -15,7 +15,7 @@ use Rattle.text.specs.Text.{line, dash}
 use Rattle.laying.specs.Laid.{Lays}
 use Rattle.laying.specs.Laws.{lays-as}
 use Rattle.running.specs.Output.{lineRoom, runNumber, StreamEnds}
-use Rattle.shelf.specs.Printed.{shelf, served, printed}
+use Rattle.shelf.specs.Printed.{programSize, served, printed}
 
 pub printed-long : (s : List ℕ) {out out′ : List ℕ} {end : ℕ} → 4096 < length s → Lays out 0 (line 0 8 dash) out′ end → Lays out 0 (printed s) out′ end
 unfolding printed
@@ -26,17 +26,17 @@ unfolding printed
 printed-short s l y = rw (le-ltb 4096 (length s) l) y
 
 -- buffers of the right lengths are opened
-opens : (places node row : List ℕ) → length places ≡ 48 → length node ≡ 2 → length row ≡ 2 → openVerdict shelf places node row ≡ none
+opens : (places node row : List ℕ) → length places ≡ 48 → length node ≡ 2 → length row ≡ 2 → openVerdict programSize places node row ≡ none
 unfolding openVerdict refusal openTests inMeasure
 opens places node row p n r = rw (p, n, r)
 
 -- and a run on what the opening left answers as the opened model
-pub shelf-serves : {places node row places₁ node₁ row₁ : List ℕ} {number : ℕ} {tree : Tree} {s out : List ℕ} {answer : ℕ} {z′ : Records} {places′ out′ : List ℕ} {end : ℕ}
-    → length places ≡ 48 → length node ≡ 2 → length row ≡ 2 → Opening shelf places node row number tree places₁ node₁ row₁
-    → length s ≤ 4096 → 147456 ≤ length out → StreamEnds (recordsOf shelf tree node₁ row₁) places₁ s out answer z′ places′ out′ end → Lays out 0 (served s) out′ end
+pub program-serves : {places node row places₁ node₁ row₁ : List ℕ} {number : ℕ} {tree : Tree} {s out : List ℕ} {answer : ℕ} {z′ : Records} {places′ out′ : List ℕ} {end : ℕ}
+    → length places ≡ 48 → length node ≡ 2 → length row ≡ 2 → Opening programSize places node row number tree places₁ node₁ row₁
+    → length s ≤ 4096 → 147456 ≤ length out → StreamEnds (recordsOf programSize tree node₁ row₁) places₁ s out answer z′ places′ out′ end → Lays out 0 (served s) out′ end
 unfolding served runNumber
-shelf-serves {places} {node} {row} {places₁} {node₁} {row₁} {number} {tree} {s} {out} {answer} p n r o l m e =
-    let run = open-call shelf places node row number tree places₁ node₁ row₁ o (opens places node row p n r) .1 in
+program-serves {places} {node} {row} {places₁} {node₁} {row₁} {number} {tree} {s} {out} {answer} p n r o l m e =
+    let run = open-call programSize places node row number tree places₁ node₁ row₁ o (opens places node row p n r) .1 in
     let d = e .sound (run .store .sound) in
     let fits : answer ≡ 0 = d .number ∙ rw (run .store .size, le-ltb 4096 (length s) l, le-ltb (length out) (36 * length s) (omega (arith, l, m))) in
     d .accepted fits _ run .lays

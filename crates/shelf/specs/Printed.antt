@@ -10,11 +10,11 @@ use Rattle.text.specs.Text.{line, dash}
 use Rattle.running.specs.Output.{output}
 
 -- 4 rows of 8 bytes in 6 places
-abbrev pub shelf : Size
-shelf = record { rows = 4; width = 8; places = 6 }
+abbrev pub programSize : Size
+programSize = record { rows = 4; width = 8; places = 6 }
 
 unfoldable pub served : List ℕ → List ℕ
-served s = output shelf s (opened shelf)
+served s = output programSize s (opened programSize)
 
 -- a stream of over 4,096 bytes is answered by one line, with the number 0
 unfoldable pub printed : List ℕ → List ℕ

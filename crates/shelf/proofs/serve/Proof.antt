@@ -1,7 +1,7 @@
 -- `shelf::serve` meets its contract. Assumes nothing.
 use borrow.Author.Needs.{needs}
 use mathlib.Core.Path.{refl}
-use Rattle.shelf.specs.Laws.{shelf-serves}
+use Rattle.shelf.specs.Laws.{program-serves}
 use Rattle.shelf.proofs.serve.Statement.{statement}
 use Rattle.shelf.proofs.serve.Tie as tie
 
@@ -33,7 +33,7 @@ same-length : tie.Need-same-length
 same-length c = search needs
 
 returns : tie.Need-returns
-returns c = shelf-serves refl refl refl (c .before .before .before .before .before .before .before .before .before .before .before .before .before .before .«open» .ensures) (c .before .before .before .before .before .before .before .before .before .before .before .before .before .before .before .before .before .before .before .before .pre .0) (c .before .before .before .before .before .before .before .before .before .before .before .before .before .before .before .before .before .before .before .before .pre .1) (c .before .before .before .before .before .run .ensures)
+returns c = program-serves refl refl refl (c .before .before .before .before .before .before .before .before .before .before .before .before .before .before .«open» .ensures) (c .before .before .before .before .before .before .before .before .before .before .before .before .before .before .before .before .before .before .before .before .pre .0) (c .before .before .before .before .before .before .before .before .before .before .before .before .before .before .before .before .before .before .before .before .pre .1) (c .before .before .before .before .before .run .ensures)
 
 pub serve-spec : {M : Type 1} → statement M
 serve-spec =
