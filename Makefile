@@ -2,11 +2,13 @@
 # library: the static library for C.  example: a host in C, built and run.  bench: times beside plain Rust's.
 SHELL := bash
 .SHELLFLAGS := -euo pipefail -c
-.PHONY: shelf library example test host bench tour clean
+.PHONY: shelf program library example test host bench tour clean
 
-shelf:
-	@rt check shelf >/dev/null
+shelf: program
 	@target/bin/shelf <crates/shelf/stdin
+
+program:
+	@rt check shelf >/dev/null
 
 library:
 	@rt staticlib rowstore >/dev/null
@@ -21,8 +23,8 @@ test:
 	@verdict=$$(mktemp); trap 'rm -f "$$verdict"' EXIT; \
 	rt ci | tee "$$verdict"; $(MAKE) --no-print-directory host; tail -n 1 "$$verdict"
 
-# The tests that call the static library, from Rust and from C.
-host: library
+# The tests that call the static library or the program, from Rust and from C.
+host: library program
 	@cd host && cargo test --features linked -- --nocapture
 	@example/check.sh
 

@@ -1,0 +1,198 @@
+//! Drawn streams of commands, given to the program and to the full copies: every byte that is printed is compared.
+#![cfg(feature = "linked")]
+
+use rowstore_host::copies::Copies;
+use rowstore_host::dice::Dice;
+use std::collections::BTreeMap;
+use std::io::Write;
+use std::path::PathBuf;
+use std::process::{Command, Stdio};
+
+const ROWS: usize = 4;
+const WIDTH: usize = 8;
+const PLACES: usize = 6;
+const PLACES_LEN: usize = PLACES * WIDTH;
+const RECORDS_LEN: usize = 518 + 3 * (PLACES - ROWS);
+
+/// What the program prints for a stream.
+fn printed(stream: &[u8]) -> Vec<u8> {
+    let program = PathBuf::from(env!("CARGO_MANIFEST_DIR")).join("../target/bin/shelf");
+    let mut child = Command::new(&program)
+        .stdin(Stdio::piped())
+        .stdout(Stdio::piped())
+        .spawn()
+        .unwrap_or_else(|error| panic!("{}: {error}", program.display()));
+    let mut input = child.stdin.take().expect("standard input is piped");
+    // A stream that is too long need not be read to its end.
+    let _ = input.write_all(stream);
+    drop(input);
+    let output = child.wait_with_output().expect("the program ends");
+    assert!(output.status.success(), "{}", output.status);
+    output.stdout
+}
+
+/// The commands of a stream, one after the other.
+struct Reader<'a> {
+    rest: &'a [u8],
+}
+
+impl<'a> Reader<'a> {
+    /// The next command's kind and operands: none at the end, else the refusal 6 or 7.
+    fn next(&mut self) -> Option<Result<(u8, &'a [u8]), u8>> {
+        let (&kind, behind) = self.rest.split_first()?;
+        let operands = match kind {
+            1 | 2 => 4,
+            3 => 4 + WIDTH,
+            4 => 2,
+            5 => 0,
+            _ => return Some(Err(6)),
+        };
+        if behind.len() < operands {
+            return Some(Err(7));
+        }
+        let (taken, rest) = behind.split_at(operands);
+        self.rest = rest;
+        Some(Ok((kind, taken)))
+    }
+}
+
+fn number(bytes: &[u8]) -> u16 {
+    u16::from_be_bytes([bytes[0], bytes[1]])
+}
+
+fn hexadecimal(bytes: &[u8]) -> String {
+    bytes.iter().map(|byte| format!("{byte:02x}")).collect()
+}
+
+/// A call on the full copies: its answer, and what is shown of it.
+fn answered(copies: &mut Copies, kind: u8, operands: &[u8]) -> (u8, String) {
+    let dash = String::from("-");
+    match kind {
+        1 => (
+            copies.snapshot(number(operands), number(&operands[2..])),
+            dash,
+        ),
+        2 => {
+            let row = usize::from(number(&operands[2..]));
+            match copies.read(PLACES_LEN, number(operands), row, WIDTH) {
+                Ok(bytes) => (0, hexadecimal(bytes)),
+                Err(refusal) => (refusal, dash),
+            }
+        }
+        3 => {
+            let row = usize::from(number(&operands[2..]));
+            let answer = copies.write(PLACES_LEN, number(operands), row, &operands[4..]);
+            (answer, dash)
+        }
+        4 => (copies.delete(number(operands)), dash),
+        _ => {
+            let (used, snapshots) = copies.count();
+            (0, format!("{used} {snapshots}"))
+        }
+    }
+}
+
+/// What is due, and how often each answer is in it.
+fn due(stream: &[u8], seen: &mut BTreeMap<u8, usize>) -> Vec<u8> {
+    if stream.len() > 4096 {
+        *seen.entry(8).or_default() += 1;
+        return b"0 8 -\n".to_vec();
+    }
+    let mut copies = Copies::open(RECORDS_LEN, PLACES_LEN, ROWS, WIDTH, PLACES).expect("it opens");
+    let mut reader = Reader { rest: stream };
+    let mut text = Vec::new();
+    let mut line = 0;
+    while let Some(command) = reader.next() {
+        line += 1;
+        let (answer, shown) = match command {
+            Ok((kind, operands)) => answered(&mut copies, kind, operands),
+            Err(refusal) => (refusal, String::from("-")),
+        };
+        *seen.entry(answer).or_default() += 1;
+        writeln!(text, "{line} {answer} {shown}").expect("a vector takes every line");
+        if command.is_err() {
+            break;
+        }
+    }
+    text
+}
+
+/// A drawn command: few tags and rows, now and then ones that do not exist.
+fn command(dice: &mut Dice, stream: &mut Vec<u8>) {
+    let kind = dice.pick(&[1u8, 2, 2, 3, 3, 3, 4, 5]);
+    stream.push(kind);
+    let tag = |dice: &mut Dice| dice.pick(&[0u16, 0, 1, 2, 3, 258, 4660]).to_be_bytes();
+    let row = |dice: &mut Dice| {
+        dice.pick(&[0u16, 1, 2, 3, 3, 2, 1, 0, 4, 256])
+            .to_be_bytes()
+    };
+    match kind {
+        1 => stream.extend([tag(dice), tag(dice)].concat()),
+        2 => stream.extend([tag(dice), row(dice)].concat()),
+        3 => {
+            stream.extend([tag(dice), row(dice)].concat());
+            stream.extend(dice.bytes(WIDTH));
+        }
+        4 => stream.extend(tag(dice)),
+        _ => {}
+    }
+}
+
+/// A stream of drawn commands; one in three is cut, ends in an unknown command, or is drawn byte by byte.
+fn stream(dice: &mut Dice) -> Vec<u8> {
+    let mut bytes = Vec::new();
+    for _ in 0..dice.below(120) {
+        command(dice, &mut bytes);
+    }
+    match dice.below(9) {
+        0 => bytes.truncate(dice.below(bytes.len() + 1)),
+        1 => bytes.push(dice.pick(&[0u8, 6, 255])),
+        2 => {
+            let len = dice.below(40);
+            bytes = dice.bytes(len);
+        }
+        _ => {}
+    }
+    bytes
+}
+
+fn compare(stream: &[u8], what: &str, seen: &mut BTreeMap<u8, usize>) {
+    let expected = due(stream, seen);
+    let got = printed(stream);
+    assert!(
+        got == expected,
+        "{what}: expected\n{}got\n{}",
+        String::from_utf8_lossy(&expected),
+        String::from_utf8_lossy(&got)
+    );
+}
+
+#[test]
+fn drawn_streams() {
+    const SEEDS: u64 = 600;
+    let mut seen = BTreeMap::new();
+    for seed in 0..SEEDS {
+        let bytes = stream(&mut Dice::new(seed));
+        compare(&bytes, &format!("seed {seed}"), &mut seen);
+    }
+    for answer in [0, 3, 4, 5, 6, 7, 21, 22, 24] {
+        assert!(seen.contains_key(&answer), "no answer {answer} in {seen:?}");
+    }
+    println!("drawn streams: seeds 0 to {}, answers {seen:?}", SEEDS - 1);
+}
+
+/// The longest stream, one more byte, and none.
+#[test]
+fn lengths_of_streams() {
+    let mut seen = BTreeMap::new();
+    for len in [0, 1, 4095, 4096, 4097, 5000, 70000] {
+        compare(&vec![5; len], &format!("{len} counts"), &mut seen);
+    }
+    let mut rows = Vec::new();
+    while rows.len() + 5 <= 4096 {
+        rows.extend([2, 0, 0, 0, 3]);
+    }
+    compare(&rows, "only reads", &mut seen);
+    assert!(seen[&8] == 3 && seen[&0] > 8000, "{seen:?}");
+    println!("lengths of streams: answers {seen:?}");
+}
