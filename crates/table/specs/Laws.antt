@@ -3,7 +3,7 @@ use mathlib.Core.Path.{_≡_, refl, sym, _∙_, ap}
 use mathlib.Core.Logic.{_≢_, _↔_, by-cases}
 use mathlib.Core.Bool.{true, false, false≢true}
 use mathlib.Core.List.{List}
-use Prim.Native.Nat.{ℕ, _+_, _≤_, _<_}
+use Prim.Native.Nat.{ℕ, _+_, _*_, _≤_, _<_}
 use native.Mathlib.Decide.{ℕ-discrete, decLt}
 use native.Mathlib.Omega.{arith}
 use lib.ListN.{length, set, replicate, length-set, length-replicate, getD-replicate}
@@ -14,23 +14,23 @@ use Rattle.records.specs.Records.{Table, InUse, Alive, up}
 use Rattle.records.specs.Reading.{Owns, Reads, origin, own}
 use Rattle.records.specs.Sound.{Linked, Excepting}
 use Rattle.tree.specs.Loops.{Climbing, climb-over, linked-reaches}
-use Rattle.table.specs.Rules.{ReadAt, slot, Marked, EntryFits, Entering, Entered, Meets, here, above, Met, Judging}
+use Rattle.table.specs.Rules.{ReadAt, slot, Marked, EntryFits, Entering, Entered, Meets, here, above, Met, Judging, Nodes}
 
 -- Marks
 
 module _ (e : Table) (marks : List ℕ) where
   -- before the first entry nothing is marked
-  pub marked-none : length marks ≡ 131072 → ((k : ℕ) → k < 131072 → at marks k ≡ 0) → Marked e marks 0
+  pub marked-none : e .rows * 128 ≤ length marks → ((k : ℕ) → k < length marks → at marks k ≡ 0) → Marked e marks 0
   marked-none l h = record {
-    size = l;
+    room = l;
     named = λ n r j z m s k o. absurd (omega arith);
-    only = λ n r z m s x. absurd (x (h (slot n r) (omega arith)));
+    only = λ n r z m s x. absurd (x (h (slot n r) (omega (arith, l))));
   }
 
   -- a free place leaves the marks as they are
   pub marked-free : (i : ℕ) → at (e .node) i ≡ 0 → Marked e marks i → Marked e marks (i + 1)
   marked-free i f m = record {
-    size = m .size;
+    room = m .room;
     named = λ n r j z l s k o. by-cases (ℕ-discrete j i)
         (λ x. absurd (z (sym (o .1) ∙ ap (at (e .node)) x ∙ f)))
         (λ x. m .named n r j z l s (omega arith) o);
@@ -38,9 +38,9 @@ module _ (e : Table) (marks : List ℕ) where
   }
 
   -- an exception marks its node and row, and no other
-  pub marked-more : (n r i : ℕ) → n < 128 → r < 1024 → Owns e n r i → Marked e marks i → Marked e (set marks (slot n r) 1) (i + 1)
+  pub marked-more : (n r i : ℕ) → n < 128 → r < e .rows → Owns e n r i → Marked e marks i → Marked e (set marks (slot n r) 1) (i + 1)
   marked-more n r i l s o m = record {
-    size = length-set marks (slot n r) 1 ∙ m .size;
+    room = omega (arith, m .room, length-set marks (slot n r) 1);
     named = λ a b j z k w h p. by-cases (ℕ-discrete (slot a b) (slot n r))
         (λ x q. omega (arith, q, same a b x))
         (λ x q. m .named a b j z k w (earlier a b j h p x) p (sym (other a b x) ∙ q));
@@ -50,7 +50,7 @@ module _ (e : Table) (marks : List ℕ) where
   }
     where
       same : (a b : ℕ) → slot a b ≡ slot n r → at (set marks (slot n r) 1) (slot a b) ≡ 1
-      same a b x = ap (at (set marks (slot n r) 1)) x ∙ getD-set-same marks (slot n r) 1 0 (omega (arith, m .size))
+      same a b x = ap (at (set marks (slot n r) 1)) x ∙ getD-set-same marks (slot n r) 1 0 (omega (arith, m .room))
 
       other : (a b : ℕ) → slot a b ≢ slot n r → at (set marks (slot n r) 1) (slot a b) ≡ at marks (slot a b)
       other a b x = getD-set-other marks (slot n r) (slot a b) 1 0 x
@@ -59,15 +59,32 @@ module _ (e : Table) (marks : List ℕ) where
       earlier a b j h p x = by-cases (ℕ-discrete j i) (λ y. absurd (x (cc))) (λ y. omega arith)
 
   -- a node without an own row has no mark there
-  pub unmarked : (n r i : ℕ) → n ≢ 0 → n < 128 → r < 1024 → Marked e marks i → ((j : ℕ) → j < i → Owns e n r j → ⊥) → at marks (slot n r) ≡ 0
+  pub unmarked : (n r i : ℕ) → n ≢ 0 → n < 128 → r < e .rows → Marked e marks i → ((j : ℕ) → j < i → Owns e n r j → ⊥) → at marks (slot n r) ≡ 0
   unmarked n r i z l s m h = by-cases (ℕ-discrete (at marks (slot n r)) 0) (λ x. x) (λ x. let (j, k, o) = m .only n r z l s x in absurd (h j k o))
 
 -- what a table needs before its first entry is tested, with no marks
-pub entering-first : (e : Table) → length (e .row) ≡ length (e .node) → e .rows ≤ 1024 → Entering e (replicate 131072 0) 0
-entering-first e h f = record {
+pub entering-first : (e : Table) (room : ℕ) → length (e .row) ≡ length (e .node) → e .rows ≤ 1024 → e .rows * 128 ≤ room → Entering e (replicate room 0) 0
+entering-first e room h f l = record {
   halves = h;
   few = f;
-  marked = marked-none e (replicate 131072 0) (length-replicate {A = ℕ} 131072 0) (λ k l. getD-replicate {A = ℕ} 131072 k 0 0 l);
+  marked = marked-none e (replicate room 0) (omega (arith, l, length-replicate {A = ℕ} room 0))
+      (λ k x. getD-replicate {A = ℕ} room k 0 0 (omega (arith, x, length-replicate {A = ℕ} room 0)));
+}
+
+-- Numbers of nodes
+
+pub nodes-none : Nodes (replicate 128 0)
+nodes-none = record {
+  size = length-replicate {A = ℕ} 128 0;
+  node = λ k l. omega (arith, getD-replicate {A = ℕ} 128 k 0 0 l);
+}
+
+pub nodes-set : (xs : List ℕ) (i x : ℕ) → x < 128 → Nodes xs → Nodes (set xs i x)
+nodes-set xs i x l h = record {
+  size = length-set xs i x ∙ h .size;
+  node = λ k m. by-cases (ℕ-discrete k i)
+      (λ e. omega (arith, l, ap (at (set xs i x)) e ∙ getD-set-same xs i x 0 (omega (arith, h .size))))
+      (λ e. omega (arith, h .node k m, getD-set-other xs i k x 0 e));
 }
 
 -- Going up to a node or a mark

@@ -24,13 +24,13 @@ pub record Fitting (t : Tree) (e : Table) : Type 0 where
 
 -- where the mark for a node and a row stands
 abbrev pub slot : ℕ → ℕ → ℕ
-slot n r = n * 1024 + r
+slot n r = r * 128 + n
 
 -- marked are the nodes and rows that entries below i name
 pub record Marked (e : Table) (marks : List ℕ) (i : ℕ) : Type 0 where
-  pub size : length marks ≡ 131072
-  pub named : (n r j : ℕ) → n ≢ 0 → n < 128 → r < 1024 → j < i → Owns e n r j → at marks (slot n r) ≢ 0
-  pub only : (n r : ℕ) → n ≢ 0 → n < 128 → r < 1024 → at marks (slot n r) ≢ 0 → (j : ℕ) × (j < i) × Owns e n r j
+  pub room : e .rows * 128 ≤ length marks
+  pub named : (n r j : ℕ) → n ≢ 0 → n < 128 → r < e .rows → j < i → Owns e n r j → at marks (slot n r) ≢ 0
+  pub only : (n r : ℕ) → n ≢ 0 → n < 128 → r < e .rows → at marks (slot n r) ≢ 0 → (j : ℕ) × (j < i) × Owns e n r j
 
 -- rule 6 at entry i, against the entries before it
 pub record EntryFits (t : Tree) (e : Table) (i : ℕ) : Type 0 where
@@ -62,15 +62,25 @@ pub data Meets (t : Tree) (marks : List ℕ) (r g : ℕ) : ℕ → Type 0 where
 abbrev pub Met : Tree → List ℕ → ℕ → ℕ → Type 0
 Met t marks r g = (n : ℕ) × Alive t n × Meets t marks r g n
 
+-- row r has marks, one for each node
+pub record MarkedRow (marks : List ℕ) (r : ℕ) : Type 0 where
+  pub row : r < 1024
+  pub room : r * 128 + 128 ≤ length marks
+
 -- a node g other than 0 and a row of a linked tree; and a node n in use to start from
-pub record Seeking (t : Tree) (g r : ℕ) : Type 0 where
+pub record Seeking (t : Tree) (marks : List ℕ) (g r : ℕ) : Type 0 where
   pub linked : Linked t
   pub below : g ≢ 0
-  pub row : r < 1024
+  pub row : MarkedRow marks r
 
-pub record Seeker (t : Tree) (n g r : ℕ) : Type 0 where
-  pub seeking : Seeking t g r
+pub record Seeker (t : Tree) (marks : List ℕ) (n g r : ℕ) : Type 0 where
+  pub seeking : Seeking t marks g r
   pub used : InUse t n
+
+-- 128 numbers of nodes
+pub record Nodes (xs : List ℕ) : Type 0 where
+  pub size : length xs ≡ 128
+  pub node : (k : ℕ) → k < 128 → at xs k < 128
 
 -- before rule 7 is tested: rule 6 holds, and all entries have their marks
 pub record Judging (t : Tree) (e : Table) (marks : List ℕ) : Type 0 where

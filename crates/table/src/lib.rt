@@ -4,8 +4,8 @@ ghost use Prim.Native.Nat.{ℕ, _≤_, _<_};
 ghost use lib.ListN.{length};
 ghost use Rattle.basics.specs.Decide.{Decides};
 ghost use Rattle.records.specs.Records.{treeOf, tableOf};
-ghost use Rattle.records.specs.Sound.{AllRead};
-ghost use Rattle.table.specs.Rules.{Fitting, Entering, Entered, Entries, Seeking, Seeker, Meets, Met, Judging, ReadAt, TableSound};
+ghost use Rattle.records.specs.Sound.{Linked, AllRead};
+ghost use Rattle.table.specs.Rules.{Fitting, Entering, Entered, Entries, MarkedRow, Seeking, Seeker, Nodes, Meets, Met, Judging, ReadAt, TableSound};
 
 // A byte as an index, and a 16-bit number.
 fn wide(x: u8) -> usize
@@ -29,7 +29,7 @@ fn enter<'a>(
     node: &'a [u8],
     row: &'a [u16],
     i: usize,
-    marks: &mut [u8; 131072],
+    marks: &mut [u8],
 ) -> bool
     requires { ⌜ (i < length (now node)) × Entering (tableOf rows (now node) (now row)) (now marks) i ⌝ }
     ensures { λ r. ⌜ Entered (treeOf (now (state .entry)) (now (tag .entry)) (now (parent .entry))) (tableOf rows (now (node .entry)) (now (row .entry))) i (now (marks .exit)) r ⌝ }
@@ -51,7 +51,7 @@ fn enter<'a>(
     if r >= rows {
         return false;
     }
-    let k = n * 1024 + r;
+    let k = r * 128 + n;
     if marks[k] != 0 {
         return false;
     }
@@ -67,7 +67,7 @@ fn entries<'a>(
     rows: usize,
     node: &'a [u8],
     row: &'a [u16],
-    marks: &mut [u8; 131072],
+    marks: &mut [u8],
 ) -> bool
     requires { ⌜ Entering (tableOf rows (now node) (now row)) (now marks) 0 ⌝ }
     ensures { λ r. ⌜ Entries (treeOf (now (state .entry)) (now (tag .entry)) (now (parent .entry))) (tableOf rows (now (node .entry)) (now (row .entry))) (now (marks .exit)) r ⌝ }
@@ -87,12 +87,12 @@ fn meets<'a>(
     state: &'a [u8; 128],
     tag: &'a [u16; 128],
     parent: &'a [u8; 128],
-    marks: &'a [u8; 131072],
+    marks: &'a [u8],
     n: usize,
     g: usize,
     r: usize,
 ) -> bool
-    requires { ⌜ Seeker (treeOf (now state) (now tag) (now parent)) n g r ⌝ }
+    requires { ⌜ Seeker (treeOf (now state) (now tag) (now parent)) (now marks) n g r ⌝ }
     ensures { λ b. ⌜ Decides b (Meets (treeOf (now (state .entry)) (now (tag .entry)) (now (parent .entry))) (now (marks .entry)) r g n) ⌝ }
 {
     let mut m = n;
@@ -104,7 +104,7 @@ fn meets<'a>(
         if m == 0 {
             return false;
         }
-        if marks[m * 1024 + r] != 0 {
+        if marks[r * 128 + m] != 0 {
             return false;
         }
         m = wide(parent[m]);
@@ -118,11 +118,11 @@ fn met<'a>(
     state: &'a [u8; 128],
     tag: &'a [u16; 128],
     parent: &'a [u8; 128],
-    marks: &'a [u8; 131072],
+    marks: &'a [u8],
     g: usize,
     r: usize,
 ) -> bool
-    requires { ⌜ Seeking (treeOf (now state) (now tag) (now parent)) g r ⌝ }
+    requires { ⌜ Seeking (treeOf (now state) (now tag) (now parent)) (now marks) g r ⌝ }
     ensures { λ b. ⌜ Decides b (Met (treeOf (now (state .entry)) (now (tag .entry)) (now (parent .entry))) (now (marks .entry)) r g) ⌝ }
 {
     let mut n: usize = 0;
@@ -137,18 +137,117 @@ fn met<'a>(
     false
 }
 
+// The nodes' children: each node's first one, and the one after each child; 0 where there is none.
+struct Children {
+    first: [u8; 128],
+    after: [u8; 128],
+}
+
+fn kin<'a>(state: &'a [u8; 128], tag: &'a [u16; 128], parent: &'a [u8; 128]) -> Children
+    requires { ⌜ Linked (treeOf (now state) (now tag) (now parent)) ⌝ }
+    ensures { λ k. ⌜ Nodes (k .first) × Nodes (k .after) ⌝ }
+{
+    let mut first = [0u8; 128];
+    let mut after = [0u8; 128];
+    let mut c: usize = 1;
+    while c < 128 {
+        if state[c] != 0 {
+            let p = wide(parent[c]);
+            after[c] = first[p];
+            first[p] = c as u8;
+        }
+        c += 1;
+    }
+    Children { first, after }
+}
+
+// A child of node n without a mark at row r, or 0.
+fn open_child<'a>(
+    first: &'a [u8; 128],
+    after: &'a [u8; 128],
+    marks: &'a [u8],
+    n: usize,
+    r: usize,
+) -> usize
+    requires { ⌜ Nodes (now first) × Nodes (now after) × MarkedRow (now marks) r × (n < 128) ⌝ }
+    ensures { λ c. ⌜ c < 128 ⌝ }
+{
+    let mut c = wide(first[n]);
+    let mut k: usize = 0;
+    while k < 128 {
+        if c == 0 {
+            return 0;
+        }
+        if marks[r * 128 + c] == 0 {
+            return c;
+        }
+        c = wide(after[c]);
+        k += 1;
+    }
+    0
+}
+
+// A node that may be a living one that reads node g's own row r: down from g, past ghosts, where no mark is. Only a guess.
+fn likely<'a>(
+    state: &'a [u8; 128],
+    first: &'a [u8; 128],
+    after: &'a [u8; 128],
+    marks: &'a [u8],
+    g: usize,
+    r: usize,
+) -> usize
+    requires { ⌜ Nodes (now first) × Nodes (now after) × MarkedRow (now marks) r × (g < 128) ⌝ }
+    ensures { λ n. ⌜ n < 128 ⌝ }
+{
+    let mut n = g;
+    let mut k: usize = 0;
+    while k < 128 {
+        n = open_child(first, after, marks, n, r);
+        if state[n] != 2 {
+            return n;
+        }
+        k += 1;
+    }
+    n
+}
+
+// Does some living version read node g's own row r? The likely one is asked first.
+fn seen<'a>(
+    state: &'a [u8; 128],
+    tag: &'a [u16; 128],
+    parent: &'a [u8; 128],
+    first: &'a [u8; 128],
+    after: &'a [u8; 128],
+    marks: &'a [u8],
+    g: usize,
+    r: usize,
+) -> bool
+    requires { ⌜ Seeking (treeOf (now state) (now tag) (now parent)) (now marks) g r × Nodes (now first) × Nodes (now after) × (g < 128) ⌝ }
+    ensures { λ b. ⌜ Decides b (Met (treeOf (now (state .entry)) (now (tag .entry)) (now (parent .entry))) (now (marks .entry)) r g) ⌝ }
+{
+    let n = likely(state, first, after, marks, g, r);
+    if state[n] == 1 {
+        if meets(state, tag, parent, marks, n, g, r) {
+            return true;
+        }
+    }
+    met(state, tag, parent, marks, g, r)
+}
+
 // Rule 7 at one entry. A living node reads its own rows; only a ghost's are looked for.
 fn is_read<'a>(
     state: &'a [u8; 128],
     tag: &'a [u16; 128],
     parent: &'a [u8; 128],
+    first: &'a [u8; 128],
+    after: &'a [u8; 128],
     rows: usize,
     node: &'a [u8],
     row: &'a [u16],
-    marks: &'a [u8; 131072],
+    marks: &'a [u8],
     i: usize,
 ) -> bool
-    requires { ⌜ (i < length (now node)) × Judging (treeOf (now state) (now tag) (now parent)) (tableOf rows (now node) (now row)) (now marks) ⌝ }
+    requires { ⌜ (i < length (now node)) × Nodes (now first) × Nodes (now after) × Judging (treeOf (now state) (now tag) (now parent)) (tableOf rows (now node) (now row)) (now marks) ⌝ }
     ensures { λ b. ⌜ Decides b (ReadAt (treeOf (now (state .entry)) (now (tag .entry)) (now (parent .entry))) (tableOf rows (now (node .entry)) (now (row .entry))) i) ⌝ }
 {
     let g = wide(node[i]);
@@ -159,7 +258,7 @@ fn is_read<'a>(
         return true;
     }
     let r = wide16(row[i]);
-    if met(state, tag, parent, marks, g, r) {
+    if seen(state, tag, parent, first, after, marks, g, r) {
         return true;
     }
     false
@@ -170,17 +269,19 @@ fn all_read<'a>(
     state: &'a [u8; 128],
     tag: &'a [u16; 128],
     parent: &'a [u8; 128],
+    first: &'a [u8; 128],
+    after: &'a [u8; 128],
     rows: usize,
     node: &'a [u8],
     row: &'a [u16],
-    marks: &'a [u8; 131072],
+    marks: &'a [u8],
 ) -> bool
-    requires { ⌜ Judging (treeOf (now state) (now tag) (now parent)) (tableOf rows (now node) (now row)) (now marks) ⌝ }
+    requires { ⌜ Nodes (now first) × Nodes (now after) × Judging (treeOf (now state) (now tag) (now parent)) (tableOf rows (now node) (now row)) (now marks) ⌝ }
     ensures { λ b. ⌜ Decides b (AllRead (treeOf (now (state .entry)) (now (tag .entry)) (now (parent .entry))) (tableOf rows (now (node .entry)) (now (row .entry)))) ⌝ }
 {
     let mut i: usize = 0;
     while i < node.len() {
-        if !is_read(state, tag, parent, rows, node, row, marks, i) {
+        if !is_read(state, tag, parent, first, after, rows, node, row, marks, i) {
             return false;
         }
         i += 1;
@@ -188,7 +289,41 @@ fn all_read<'a>(
     true
 }
 
-// Rules 6 and 7, of a tree that meets rule 3.
+// Rules 6 and 7, with marks that are all 0.
+fn judged<'a>(
+    state: &'a [u8; 128],
+    tag: &'a [u16; 128],
+    parent: &'a [u8; 128],
+    rows: usize,
+    node: &'a [u8],
+    row: &'a [u16],
+    marks: &mut [u8],
+) -> bool
+    requires { ⌜ Fitting (treeOf (now state) (now tag) (now parent)) (tableOf rows (now node) (now row))
+        × Entering (tableOf rows (now node) (now row)) (now marks) 0 ⌝ }
+    ensures { λ b. ⌜ Decides b (TableSound (treeOf (now (state .entry)) (now (tag .entry)) (now (parent .entry))) (tableOf rows (now (node .entry)) (now (row .entry)))) ⌝ }
+{
+    if !entries(state, tag, parent, rows, node, row, marks) {
+        return false;
+    }
+    let kin = kin(state, tag, parent);
+    if !all_read(
+        state,
+        tag,
+        parent,
+        &kin.first,
+        &kin.after,
+        rows,
+        node,
+        row,
+        marks,
+    ) {
+        return false;
+    }
+    true
+}
+
+// Rules 6 and 7, of a tree that meets rule 3. Few rows need few marks.
 pub fn sound<'a>(
     state: &'a [u8; 128],
     tag: &'a [u16; 128],
@@ -200,12 +335,10 @@ pub fn sound<'a>(
     requires { ⌜ Fitting (treeOf (now state) (now tag) (now parent)) (tableOf rows (now node) (now row)) ⌝ }
     ensures { λ b. ⌜ Decides b (TableSound (treeOf (now (state .entry)) (now (tag .entry)) (now (parent .entry))) (tableOf rows (now (node .entry)) (now (row .entry)))) ⌝ }
 {
+    if rows <= 128 {
+        let mut marks = [0u8; 16384];
+        return judged(state, tag, parent, rows, node, row, &mut marks);
+    }
     let mut marks = [0u8; 131072];
-    if !entries(state, tag, parent, rows, node, row, &mut marks) {
-        return false;
-    }
-    if !all_read(state, tag, parent, rows, node, row, &marks) {
-        return false;
-    }
-    true
+    judged(state, tag, parent, rows, node, row, &mut marks)
 }

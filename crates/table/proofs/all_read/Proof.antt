@@ -11,10 +11,10 @@ use Rattle.table.proofs.all_read.Statement.{statement}
 use Rattle.table.proofs.all_read.Tie as tie
 
 abbrev Inv-loop : tie.InvT-loop
-Inv-loop state tag parent rows node row marks i₀ i = (i ≤ length node) × ((k : ℕ) → k < i → ReadAt (treeOf state tag parent) (tableOf rows node row) k)
+Inv-loop state tag parent first after rows node row marks i₀ i = (i ≤ length node) × ((k : ℕ) → k < i → ReadAt (treeOf state tag parent) (tableOf rows node row) k)
 
 abbrev μ-loop : tie.MeasureT-loop
-μ-loop state tag parent rows node row marks i₀ i = length node - i
+μ-loop state tag parent first after rows node row marks i₀ i = length node - i
 
 loop-holds : tie.Need-loop-holds Inv-loop μ-loop
 loop-holds c = (omega arith, λ k l. absurd (omega arith))

@@ -26,25 +26,25 @@ wide16-requires c κs = search needs
 -- the entry is its node's own row
 own-row : (c : tie.After-wide16) →
     let w = c .before .before in
-    let s = w .before .before .before .before in
+    let s = w .before .before .before .before .before in
     Owns (tableOf (s .args .rows) (s .args .node .now) (s .args .row .now)) (w .wide .result) (c .wide16 .result) (s .args .i)
 own-row c =
     let w = c .before .before in
-    let s = w .before .before .before .before in
+    let s = w .before .before .before .before .before in
     (s .pre .0, sym (w .wide .ensures), sym (c .wide16 .ensures))
 
 returns : tie.Need-returns
 returns c =
     let r = c .before .before in
     let w = r .before .before in
-    let s = w .before .before .before .before in
+    let s = w .before .before .before .before .before in
     entered-free _ _ (s .args .marks .now) _ (sym (w .wide .ensures) ∙ c .before .if1 .taken) (sym (r .wide16 .ensures) ∙ c .if2 .taken) (s .pre .1 .marked)
 
 returns-2 : tie.Need-returns-2
 returns-2 c =
     let r = c .before .before in
     let w = r .before .before in
-    let s = w .before .before .before .before in
+    let s = w .before .before .before .before .before in
     entered-not _ _ (s .args .marks .now) _ (λ f. c .if2 .left (r .wide16 .ensures ∙ f .free (sym (w .wide .ensures) ∙ c .before .if1 .taken)))
 
 returns-3 : tie.Need-returns-3
@@ -52,7 +52,7 @@ returns-3 c =
     let x = c .before in
     let r = x .before in
     let w = r .before .before in
-    let s = w .before .before .before .before in
+    let s = w .before .before .before .before .before in
     let m = s .args .marks .now in
     entered-not _ _ m _ (λ f. omega (arith, fits-named _ _ _ _ _ (x .if1 .left) (own-row r) f .0 .0, c .if3 .taken))
 
@@ -64,7 +64,7 @@ returns-4 c =
     let x = c .before .before .before in
     let r = x .before in
     let w = r .before .before in
-    let s = w .before .before .before .before in
+    let s = w .before .before .before .before .before in
     let m = s .args .marks .now in
     entered-not _ _ m _ (λ f. fits-named _ _ _ _ _ (x .if1 .left) (own-row r) f .0 .1 (c .if4 .taken))
 
@@ -73,7 +73,7 @@ returns-5 c =
     let x = c .before .before .before .before in
     let r = x .before in
     let w = r .before .before in
-    let s = w .before .before .before .before in
+    let s = w .before .before .before .before .before in
     let m = s .args .marks .now in
     entered-not _ _ m _ (λ f. omega (arith, fits-named _ _ _ _ _ (x .if1 .left) (own-row r) f .1, c .if5 .taken))
 
@@ -83,20 +83,31 @@ mul-k c = search needs
 add-k : tie.Need-add-k
 add-k c = search needs
 
-element-copy-out-if6 : tie.Need-element-copy-out-if6
-element-copy-out-if6 c = search needs
+slice-read-if6 : tie.Need-slice-read-if6
+slice-read-if6 c =
+    let g = c .before in
+    let y = g .before .before .before in
+    let s = y .before .before .before .before .before .before .before .before .before in
+    omega (arith, g .if5 .left, y .if3 .left, s .pre .1 .marked .room)
 
 returns-6 : tie.Need-returns-6
 returns-6 c =
     let x = c .before .before .before .before .before .before in
     let r = x .before in
     let w = r .before .before in
-    let s = w .before .before .before .before in
+    let s = w .before .before .before .before .before in
     let m = s .args .marks .now in
     entered-not _ _ m _ (λ f. c .if6 .taken (fits-unmarked _ _ m _ (s .pre .1) _ _ (x .if1 .left) (own-row r) f))
 
-element-write-marks : tie.Need-element-write-marks
-element-write-marks c = search needs
+slice-write-marks : tie.Need-slice-write-marks
+slice-write-marks c =
+    let g = c .before .before in
+    let y = g .before .before .before in
+    let s = y .before .before .before .before .before .before .before .before .before in
+    omega (arith, g .if5 .left, y .if3 .left, s .pre .1 .marked .room)
+
+same-length : tie.Need-same-length
+same-length c = search needs
 
 returns-7 : tie.Need-returns-7
 returns-7 c =
@@ -106,7 +117,7 @@ returns-7 c =
     let x = y .before in
     let r = x .before in
     let w = r .before .before in
-    let s = w .before .before .before .before in
+    let s = w .before .before .before .before .before in
     let m = s .args .marks .now in
     entered-new _ _ m _ (s .pre .1) _ _ (x .if1 .left) (own-row r) (omega (arith, y .if3 .left), u .if4 .left) (omega (arith, g .if5 .left)) (c .if6 .left)
 
@@ -127,7 +138,8 @@ enter-spec =
     returns-5
     mul-k
     add-k
-    element-copy-out-if6
+    slice-read-if6
     returns-6
-    element-write-marks
+    slice-write-marks
+    same-length
     returns-7)

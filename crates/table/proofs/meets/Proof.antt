@@ -18,7 +18,7 @@ abbrev μ-loop : tie.MeasureT-loop
 μ-loop state tag parent marks n g r m₀ k₀ m k = 128 - k
 
 loop-holds : tie.Need-loop-holds Inv-loop μ-loop
-loop-holds c = (climb-start _ _ (c .pre .used), (λ d. d, λ d. d))
+loop-holds c = (climb-start _ _ (c .before .pre .used), (λ d. d, λ d. d))
 
 returns : tie.Need-returns Inv-loop μ-loop
 returns c = c .before .before .loop .inv .1 .1 (here (c .if1 .taken))
@@ -32,14 +32,14 @@ mul-if3 c = search needs
 add-if3 : tie.Need-add-if3 Inv-loop μ-loop
 add-if3 c = search needs
 
-element-copy-out-if3 : tie.Need-element-copy-out-if3 Inv-loop μ-loop
-element-copy-out-if3 c = search needs
+shared-slice-read-if3 : tie.Need-shared-slice-read-if3 Inv-loop μ-loop
+shared-slice-read-if3 c = search needs
 
 returns-3 : tie.Need-returns-3 Inv-loop μ-loop
 returns-3 c = λ d.
     let e = c .before .before in
     let l = e .before .before .before in
-    let a = l .before .args in
+    let a = l .before .before .args in
     meets-marked _ (a .marks .now) _ _ (e .before .if1 .left) (c .if3 .taken) (l .loop .inv .1 .0 d)
 
 element-copy-out-wide : tie.Need-element-copy-out-wide Inv-loop μ-loop
@@ -59,11 +59,11 @@ loop-again c =
     let f = c .before .before in
     let z = f .before .before in
     let l = z .before .before .before in
-    let a = l .before .args in
+    let a = l .before .before .args in
     let v = l .loop .inv in
     let h = meets-up _ (a .marks .now) _ _ (z .before .if1 .left) (z .if2 .left) (f .if3 .left) in
     rw (c .wide .ensures) (
-      climb-step _ _ _ _ (λ n k. l .before .pre .seeking .linked .parent n) (z .before .before .loop-test .taken) (z .if2 .left) (v .0),
+      climb-step _ _ _ _ (λ n k. l .before .before .pre .seeking .linked .parent n) (z .before .before .loop-test .taken) (z .if2 .left) (v .0),
       (λ d. h .0 (v .1 .0 d), λ d. v .1 .1 (h .1 d)),
     )
 
@@ -71,7 +71,7 @@ returns-4 : tie.Need-returns-4 Inv-loop μ-loop
 returns-4 c = λ d.
     let l = c .before in
     let e : l .loop .k ≡ 128 = omega arith in
-    let p = l .before .pre in
+    let p = l .before .before .pre in
     climb-ends _ _ _ (p .seeking .linked) (p .used) (rw e at (l .loop .inv .0))
 
 pub meets-spec : {M : Type 1} → statement M
@@ -85,7 +85,7 @@ meets-spec =
     returns-2
     mul-if3
     add-if3
-    element-copy-out-if3
+    shared-slice-read-if3
     returns-3
     element-copy-out-wide
     wide-requires

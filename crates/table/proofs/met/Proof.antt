@@ -26,7 +26,7 @@ element-copy-out-if1 c = search needs
 meets-requires : tie.Need-meets-requires Inv-loop μ-loop
 meets-requires c κs =
     let l = c .before .before in
-    record { seeking = l .before .before .pre; used = (l .loop-test .taken, λ e. omega (arith, c .if1 .taken)) }
+    record { seeking = l .before .before .before .pre; used = (l .loop-test .taken, λ e. omega (arith, c .if1 .taken)) }
 
 returns : tie.Need-returns Inv-loop μ-loop
 returns c =

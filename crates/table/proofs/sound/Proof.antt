@@ -1,39 +1,41 @@
--- `table::sound` meets its contract: rule 6, which leaves the marks, and then rule 7. Assumes nothing.
-use borrow.Author.Tests.{not-false}
+-- `table::sound` meets its contract: there is a mark for each node and row. Assumes nothing.
+use borrow.Author.Needs.{needs}
+use native.Mathlib.Omega.{arith}
 use Rattle.table.specs.Laws.{entering-first}
-use Rattle.basics.specs.Decide.{passed, failed}
 use Rattle.table.proofs.sound.Statement.{statement}
 use Rattle.table.proofs.sound.Tie as tie
 
-entries-requires : tie.Need-entries-requires
-entries-requires c κs =
-    let p = c .before .before .before .pre in
-    entering-first _ (p .halves) (p .few)
+slice-aggregate-judged : tie.Need-slice-aggregate-judged
+slice-aggregate-judged c = search needs
+
+judged-requires : tie.Need-judged-requires
+judged-requires c κs =
+    let i = c .before in
+    let p = i .before .before .before .pre in
+    (p, entering-first _ 16384 (p .halves) (p .few) (omega (arith, i .if1 .taken)))
 
 returns : tie.Need-returns
-returns c = λ s. failed (c .before .entries .result) (c .before .entries .ensures .fits) (c .if1 .taken) (s .excepting)
+returns c = search needs
 
-all-read-requires : tie.Need-all-read-requires
-all-read-requires c κs =
+slice-aggregate-judged-2 : tie.Need-slice-aggregate-judged-2
+slice-aggregate-judged-2 c = search needs
+
+judged-requires-2 : tie.Need-judged-requires-2
+judged-requires-2 c κs =
     let i = c .before in
-    let n = i .before .entries in
-    record {
-      fitting = i .before .before .before .before .before .pre;
-      excepting = passed (n .result) (n .ensures .fits) (i .if1 .left);
-      marked = n .ensures .marked (not-false _ (i .if1 .left));
-    }
+    let p = i .before .before .before .pre in
+    (p, entering-first _ 131072 (p .halves) (p .few) (omega (arith, p .few)))
 
 returns-2 : tie.Need-returns-2
-returns-2 c = λ s. failed (c .before .all-read .result) (c .before .all-read .ensures) (c .if2 .taken) (s .allRead)
-
-returns-3 : tie.Need-returns-3
-returns-3 c =
-    let i = c .before .before .before in
-    let n = i .before .entries in
-    record {
-      excepting = passed (n .result) (n .ensures .fits) (i .if1 .left);
-      allRead = passed (c .before .all-read .result) (c .before .all-read .ensures) (c .if2 .left);
-    }
+returns-2 c = search needs
 
 pub sound-spec : {M : Type 1} → statement M
-sound-spec = tie.close (tie.spec entries-requires returns all-read-requires returns-2 returns-3)
+sound-spec =
+    tie.close
+    (tie.spec
+    slice-aggregate-judged
+    judged-requires
+    returns
+    slice-aggregate-judged-2
+    judged-requires-2
+    returns-2)

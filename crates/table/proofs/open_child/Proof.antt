@@ -1,0 +1,77 @@
+-- `table::open_child` meets its contract. Assumes nothing.
+use borrow.Author.Needs.{needs}
+use native.Mathlib.Omega.{arith}
+use Prim.Native.Nat.{_<_, _-_}
+use Rattle.table.proofs.open_child.Statement.{statement}
+use Rattle.table.proofs.open_child.Tie as tie
+
+abbrev Inv-loop : tie.InvT-loop
+Inv-loop first after marks n r c₀ k₀ c k = c < 128
+
+abbrev μ-loop : tie.MeasureT-loop
+μ-loop first after marks n r c₀ k₀ c k = 128 - k
+
+element-copy-out-wide : tie.Need-element-copy-out-wide Inv-loop μ-loop
+element-copy-out-wide c = search needs
+
+wide-requires : tie.Need-wide-requires Inv-loop μ-loop
+wide-requires c κs = search needs
+
+loop-holds : tie.Need-loop-holds Inv-loop μ-loop
+loop-holds c = let p = c .before .before .before .pre in omega (arith, p .0 .node _ (p .3), c .wide .ensures)
+
+returns : tie.Need-returns Inv-loop μ-loop
+returns c = search needs
+
+mul-if2 : tie.Need-mul-if2 Inv-loop μ-loop
+mul-if2 c = search needs
+
+add-if2 : tie.Need-add-if2 Inv-loop μ-loop
+add-if2 c = search needs
+
+shared-slice-read-if2 : tie.Need-shared-slice-read-if2 Inv-loop μ-loop
+shared-slice-read-if2 c = search needs
+
+returns-2 : tie.Need-returns-2 Inv-loop μ-loop
+returns-2 c = search needs
+
+element-copy-out-wide-2 : tie.Need-element-copy-out-wide-2 Inv-loop μ-loop
+element-copy-out-wide-2 c = search needs
+
+wide-requires-2 : tie.Need-wide-requires-2 Inv-loop μ-loop
+wide-requires-2 c κs = search needs
+
+add-k : tie.Need-add-k Inv-loop μ-loop
+add-k c = search needs
+
+loop-less : tie.Need-loop-less Inv-loop μ-loop
+loop-less c = search needs
+
+loop-again : tie.Need-loop-again Inv-loop μ-loop
+loop-again c =
+    let l = c .before .before .before .before .before .before in
+    omega (arith, l .before .before .before .before .pre .1 .node _ (l .loop .inv), c .wide2 .ensures)
+
+returns-3 : tie.Need-returns-3 Inv-loop μ-loop
+returns-3 c = search needs
+
+pub open-child-spec : {M : Type 1} → statement M
+open-child-spec =
+    tie.close
+    (tie.spec
+    Inv-loop
+    μ-loop
+    element-copy-out-wide
+    wide-requires
+    loop-holds
+    returns
+    mul-if2
+    add-if2
+    shared-slice-read-if2
+    returns-2
+    element-copy-out-wide-2
+    wide-requires-2
+    add-k
+    loop-less
+    loop-again
+    returns-3)
