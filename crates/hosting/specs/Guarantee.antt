@@ -1,0 +1,207 @@
+-- THE GUARANTEE for a host in C: any list of calls on lent bytes answers as the reference model, and leaves bytes of what the model has.
+-- Each call loads the records that the bytes are, and what it stores is loaded again as it was. Assumes nothing.
+use mathlib.Core.Path.{_≡_, refl, sym, _∙_, ap}
+use mathlib.Core.Bool.{Bool, true, false, not, cond}
+use mathlib.Core.List.{List, [], _∷_, map}
+use mathlib.Core.Option.{Option, none, some}
+use Prim.Native.Nat.{ℕ, _+_, _*_, _≤_}
+use native.Mathlib.Omega.{arith}
+use lib.Dec.{eqb, leb}
+use lib.ListN.{length, drop, replicate, length-replicate, length-drop}
+use lib.Seq.{length-take-le}
+use borrow.Author.Tests.{eq-eqb, ne-eqb, eqb-true, not-false}
+use Rattle.basics.specs.Decide.{not-no}
+use Rattle.measures.specs.declared.Size.{Size}
+use Rattle.measures.specs.Measures.{Within}
+use Rattle.records.specs.declared.Tree.{Tree}
+use Rattle.records.specs.Records.{Records, recordsOf}
+use Rattle.records.specs.Reading.{lives}
+use Rattle.model.specs.Call.{Call, snapshot, read, write, delete, count, Refusal, bad-size, bad-length, bad-row, unknown-tag, done, row, refused, number, numberOf, rowOf}
+use Rattle.model.specs.Model.{Model, opened, answers, final, refusal, unless, inMeasure}
+use Rattle.model.specs.Tests.{refusal-passed, measure-in}
+use Rattle.soundness.specs.Judged.{Leaves, judged-sound}
+use Rattle.edits.specs.Edits.{Whole, withTree}
+use Rattle.queries.specs.Queries.{Hands, readAnswer, rowOfTag}
+use Rattle.queries.specs.Queries as queries
+use Rattle.snapshots.specs.Taking.{snapshotVerdict, snapshotTree}
+use Rattle.writing.specs.Writing.{Held, held, writeVerdict, written}
+use Rattle.deleting.specs.Deleting.{Left, left, deleteVerdict, deleted}
+use Rattle.opening.specs.First.{first-sound}
+use Rattle.view.specs.View.{Store, started}
+use Rattle.view.specs.Starts.{open-agrees}
+use Rattle.steps.specs.Begins.{start-call}
+use Rattle.steps.specs.Calls.{Runs, snapshot-call, write-call, delete-call}
+use Rattle.theorem.specs.Trace.{State, state, Handed, handed, Call-ends, Trace, handedOf, Equals}
+use Rattle.theorem.specs.Trace as trace
+use Rattle.theorem.specs.Theorem.{one-call, any-list, theorem-sound}
+use Rattle.laying.specs.Laws.{numbers-size}
+use Rattle.layout.specs.Layout.{entries, sizeAt, part, stored, loaded, Fits}
+use Rattle.layout.specs.Back.{Storable, loaded-stored, stored-fits}
+use Rattle.rowstore.specs.Host.{openTests, firstRecords, HostOpens, readTests}
+use Rattle.rowstore.specs.Laws.{number-some}
+use Rattle.hosting.specs.Called.{rowIn, Host-ends, snapshot-ends, read-ends, write-ends, delete-ends, count-ends, Host-trace, over, then}
+
+-- records that run can be stored
+runs-storable : {z : Records} {places : List ℕ} {m : Model} → Runs z places m → Storable z
+runs-storable run =
+    let s = run .store .sound .measured in
+    let w = run .whole in
+    record { within = s .within; states = w .state; parents = w .parent; tags = w .tag; nodes = s .nodes; rows = s .rows }
+
+-- What a call leaves of the record bytes is loaded as what it leaves of the records
+
+module _ (b : List ℕ) (f : Fits b) where
+  reload : (v : Option Refusal) (new got : Records) {b′ : List ℕ} → b′ ≡ unless v (λ x. b) (stored new) → got ≡ unless v (λ x. loaded b) new → Storable got → (loaded b′ ≡ got) × Fits b′
+  reload none new got e h s = rw (e, sym h) (loaded-stored got s, stored-fits got s)
+  reload (some x) new got e h s = rw (e) (sym h, f)
+
+-- of a choice, a part
+tree-chosen : (v : Option Refusal) (z : Records) (t : Tree) → withTree z (unless v (λ x. z .tree) t) ≡ unless v (λ x. z) (withTree z t)
+tree-chosen none z t = refl
+tree-chosen (some x) z t = refl
+
+abbrev leftOf : Records → Left → Records
+leftOf z l = recordsOf (z .size) (l .tree) (l .node) (l .row)
+
+left-chosen : (v : Option Refusal) (z : Records) (l : Left) → leftOf z (unless v (λ x. left (z .tree) (z .node) (z .row)) l) ≡ unless v (λ x. z) (leftOf z l)
+left-chosen none z l = refl
+left-chosen (some x) z l = refl
+
+abbrev heldOf : Records → Held → Records
+heldOf z h = recordsOf (z .size) (h .tree) (h .node) (h .row)
+
+module _ (v : Option Refusal) (z : Records) (places : List ℕ) (h : Held) where
+  abbrev kept : Held
+  kept = unless v (λ x. held (z .tree) (z .node) (z .row) places) h
+
+held-chosen : (v : Option Refusal) (z : Records) (places : List ℕ) (h : Held) → heldOf z (kept v z places h) ≡ unless v (λ x. z) (heldOf z h)
+held-chosen none z places h = refl
+held-chosen (some x) z places h = refl
+
+pair-chosen : (v : Option Refusal) (z : Records) (b places : List ℕ) (h : Held) {b′ places′ : List ℕ} → _≡_ {A = List ℕ × List ℕ} (b′, places′) (unless v (λ x. (b, places)) (stored (heldOf z h), h .places))
+    → (b′ ≡ unless v (λ x. b) (stored (heldOf z h))) × (places′ ≡ kept v z places h .places)
+pair-chosen none z b places h e = (ap (λ (p : List ℕ × List ℕ). p .0) e, ap (λ (p : List ℕ × List ℕ). p .1) e)
+pair-chosen (some x) z b places h e = (ap (λ (p : List ℕ × List ℕ). p .0) e, ap (λ (p : List ℕ × List ℕ). p .1) e)
+
+-- A read into as many bytes as a row has is a read
+
+passes : (p r t : Bool) → refusal ((p, bad-length) ∷ (false, bad-length) ∷ (r, bad-row) ∷ (t, unknown-tag) ∷ []) ≡ refusal ((p, bad-length) ∷ (r, bad-row) ∷ (t, unknown-tag) ∷ [])
+unfolding refusal
+passes true r t = refl
+passes false r t = refl
+
+read-tests : (z : Records) (places out : List ℕ) (tag r : ℕ) → length out ≡ z .size .width → refusal (readTests z (length places) (length out) tag r) ≡ refusal (queries.readTests z (length places) tag r)
+unfolding readTests queries.readTests
+read-tests z places out tag r e = rw (e, eq-eqb (z .size .width) (z .size .width) refl) (passes (not (eqb (length places) (z .size .places * z .size .width))) (leb (z .size .rows) r) (not (lives z tag)))
+
+read-hands : (v : Option Refusal) (bytes out out′ : List ℕ) {answer : ℕ} → Leaves v out bytes answer out′ → Hands (unless v refused (row bytes)) answer (rowIn answer out′)
+unfolding rowIn
+read-hands none bytes out out′ l = record { numbered = l .numbered; handed = rw (l .numbered, l .left) }
+read-hands (some x) bytes out out′ l = record { numbered = l .numbered; handed = rw (l .numbered, ne-eqb (number x) 0 (number-some x)) }
+
+-- the bytes' measures are those of the records that they are
+sized : (b : List ℕ) {n : ℕ} → n ≡ sizeAt b .width → n ≡ loaded b .size .width
+unfolding loaded
+sized b w = w
+
+answered : (z : Records) (places : List ℕ) (tag r number : ℕ) (bytes : List ℕ) → Hands (unless (refusal (queries.readTests z (length places) tag r)) refused (row (rowOfTag z places tag r))) number bytes
+    → Hands (readAnswer z places tag r) number bytes
+unfolding readAnswer
+answered z places tag r number bytes h = h
+
+-- One call from C is a call
+
+module _ (b places : List ℕ) (m : Model) (f : Fits b) (run : Runs (loaded b) places m) where
+  abbrev z : Records
+  z = loaded b
+
+  host-call : {c : Call} {h : Handed} {b′ places′ : List ℕ} → Host-ends b places c h b′ places′ → Call-ends z places c h (state (loaded b′) places′) × Fits b′
+  host-call (snapshot-ends {source = source} {new = new} {number = number} e) =
+      let l = e .sound f (run .store .sound) in
+      let v = snapshotVerdict z source new in
+      let t = snapshotTree (z .tree) source new in
+      let got : Leaves v (z .tree) t number (unless v (λ x. z .tree) t) = record { numbered = l .numbered; left = refl } in
+      let next = snapshot-call z places m run source new number _ got .1 in
+      let (same, fits) = reload b f v (withTree z t) _ (l .left) (tree-chosen v z t) (runs-storable next) in
+      (rw same (trace.snapshot-ends (judged-sound (run .store .sound) got)), fits)
+  host-call (read-ends {tag = tag} {r = r} {number = number} {out = out} {out′ = out′} w e) =
+      let l = rw (read-tests z places out tag r (sized b w)) at (e .sound f (run .store .sound)) in
+      (trace.read-ends (judged-sound (run .store .sound) (answered z places tag r number (rowIn number out′) (read-hands (refusal (queries.readTests z (length places) tag r)) (rowOfTag z places tag r) out out′ l))), f)
+  host-call (write-ends {tag = tag} {r = r} {number = number} {bs = bs} e) =
+      let l = e .sound f (run .store .sound) in
+      let v = writeVerdict z places tag r bs in
+      let h = written z places tag r bs in
+      let got : Leaves v (held (z .tree) (z .node) (z .row) places) h number (kept v z places h) = record { numbered = l .numbered; left = refl } in
+      let next = write-call z places m run tag r number bs _ got .1 in
+      let (bytes, rest) = pair-chosen v z b places h (l .left) in
+      let (same, fits) = reload b f v (heldOf z h) _ bytes (held-chosen v z places h) (runs-storable next) in
+      (rw (same, rest) (trace.write-ends (judged-sound (run .store .sound) got)), fits)
+  host-call (delete-ends {tag = tag} {number = number} e) =
+      let l = e .sound f (run .store .sound) in
+      let v = deleteVerdict z tag in
+      let d = deleted z tag in
+      let got : Leaves v (left (z .tree) (z .node) (z .row)) d number (unless v (λ x. left (z .tree) (z .node) (z .row)) d) = record { numbered = l .numbered; left = refl } in
+      let next = delete-call z places m run tag number _ got .1 in
+      let (same, fits) = reload b f v (leftOf z d) _ (l .left) (left-chosen v z d) (runs-storable next) in
+      (rw same (trace.delete-ends (judged-sound (run .store .sound) got)), fits)
+  host-call (count-ends e) = (trace.count-ends (judged-sound (run .store .sound) (e .sound f (run .store .sound))), f)
+
+-- Any list of calls from C
+
+-- it is a list of calls on the records that the bytes are
+host-trace : {b places b′ places′ : List ℕ} {m : Model} {cs : List Call} {hs : List Handed} → Fits b → Runs (loaded b) places m → Host-trace b places cs hs b′ places′
+    → Trace (state (loaded b) places) cs hs (state (loaded b′) places′)
+host-trace f run over = trace.over
+host-trace {b} {places} {m = m} f run (then e rest) =
+    let (k, fits) = host-call b places m f run e in
+    trace.then k (host-trace fits (one-call run k .2) rest)
+
+-- From an accepted opening
+
+-- an accepted opening has passed its tests
+open-passed : (z : Size) (b places : List ℕ) → refusal (openTests z (length b) (length places)) ≡ none → Within z × (length places ≡ z .places * z .width)
+unfolding openTests
+open-passed z b places e =
+    let (a, e₁) = refusal-passed (not (inMeasure z)) bad-size _ e in
+    let (c, e₂) = refusal-passed (not (eqb (length places) (z .places * z .width))) bad-length _ e₁ in
+    (measure-in z (not-false _ a), eqb-true _ _ (not-false _ c))
+
+first-runs : (z : Size) → Within z → Runs (firstRecords z) (replicate (z .places * z .width) 0) (opened z)
+first-runs z w = record {
+  store = record { sound = first-sound z w (entries z) refl; size = length-replicate (z .places * z .width) 0 };
+  whole = record { state = refl; tag = refl; parent = refl };
+  agrees = open-agrees z w (entries z) refl;
+}
+
+opened-runs : (z : Size) (b places : List ℕ) {b′ places′ : List ℕ} → HostOpens z b places 0 (b′, places′) → Fits b′ × (loaded b′ .size ≡ z) × Runs (loaded b′) places′ (opened z)
+opened-runs z b places {b′} {places′} o = go (refusal (openTests z (length b) (length places))) refl o
+  where
+    go : (v : Option Refusal) → refusal (openTests z (length b) (length places)) ≡ v → Leaves {A = List ℕ × List ℕ} v (b, places) (stored (firstRecords z), replicate (length places) 0) 0 (b′, places′)
+        → Fits b′ × (loaded b′ .size ≡ z) × Runs (loaded b′) places′ (opened z)
+    go (some x) e l = absurd (number-some x (sym (l .numbered)))
+    go none e l =
+        let (w, long) = open-passed z b places e in
+        let run = first-runs z w in
+        let s = runs-storable run in
+        let bytes : b′ ≡ stored (firstRecords z) = ap (λ (p : List ℕ × List ℕ). p .0) (l .left) in
+        let rest : places′ ≡ replicate (length places) 0 = ap (λ (p : List ℕ × List ℕ). p .1) (l .left) in
+        rw (bytes, rest, long, loaded-stored (firstRecords z) s) (stored-fits (firstRecords z) s, refl, run)
+
+pub guarantee-opened : (z : Size) (b places b₀ places₀ : List ℕ) → HostOpens z b places 0 (b₀, places₀)
+    → {cs : List Call} {hs : List Handed} {b′ places′ : List ℕ} → Host-trace b₀ places₀ cs hs b′ places′
+    → (hs ≡ map handedOf (answers z (opened z) cs)) × Equals (state (loaded b′) places′) (final z (opened z) cs)
+guarantee-opened z b places b₀ places₀ o t = let (f, e, run) = opened-runs z b places o in any-list z e run (host-trace f run t)
+
+-- From bytes of sound records, with P × B bytes of places
+
+loaded-whole : (b : List ℕ) → Fits b → Whole (loaded b .tree)
+unfolding loaded
+loaded-whole b f = record { state = long 6 128 (omega (arith, f .long)); tag = numbers-size _ 128 (long 262 256 (omega (arith, f .long))); parent = long 134 128 (omega (arith, f .long)) }
+  where
+    long : (from n : ℕ) → from + n ≤ length b → length (part from n b) ≡ n
+    long from n l = length-take-le n (drop from b) (omega (arith, length-drop from b))
+
+pub guarantee-sound : (b places : List ℕ) → Fits b → Store (loaded b) places
+    → {cs : List Call} {hs : List Handed} {b′ places′ : List ℕ} → Host-trace b places cs hs b′ places′
+    → (hs ≡ map handedOf (answers (loaded b .size) (started (loaded b) places) cs)) × Equals (state (loaded b′) places′) (final (loaded b .size) (started (loaded b) places) cs)
+guarantee-sound b places f st t = theorem-sound (loaded b) places st (loaded-whole b f) (host-trace f (start-call (loaded b) places st (loaded-whole b f)) t)

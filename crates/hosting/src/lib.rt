@@ -1,0 +1,1 @@
+// The theorem over any list of calls from C, in specs/. There is no code here.
