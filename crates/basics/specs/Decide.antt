@@ -76,9 +76,3 @@ holds false d e = absurd (false≢true e)
 pub fails : {P : Type 0} (b : Bool) → Decides b P → b ≡ false → P → ⊥
 fails true d e = absurd (false≢true (sym e))
 fails false d e = d
-
--- two tests that hold together are equal
-pub test-same : (a b : Bool) → (a ≡ true → b ≡ true) → (b ≡ true → a ≡ true) → a ≡ b
-test-same true b f g = sym (f refl)
-test-same false true f g = g refl
-test-same false false f g = refl

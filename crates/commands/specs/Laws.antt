@@ -10,7 +10,7 @@ use native.Mathlib.Omega.{arith}
 use borrow.Author.Tests.{eqb-true, eq-eqb, ne-eqb, le-leb, lt-leb, lt-ltb, le-ltb}
 use lib.Dec.{eqb}
 use lib.ListN.{length}
-use Rattle.basics.specs.Decide.{at}
+use Rattle.basics.specs.Decide.{at, Decides, decides-iff, decides-eqb}
 use Rattle.laying.specs.Laid.{pairAt}
 use Rattle.model.specs.Call.{Call, write}
 use Rattle.commands.specs.declared.Command.{Command}
@@ -94,17 +94,21 @@ module _ (width : ℕ) (s : List ℕ) (p : ℕ) where
   pub call-next : {c : Call} → callAt width s p (stepAt width s p .command) ≡ some c → p < stepAt width s p .next
   call-next e = let r = call-whole e in rw (step-whole r) (omega (arith, r .known))
 
+  -- what holds of each command of a known kind
+  of-known : (P : Command → Type 0) (kind : ℕ) → ((a b : ℕ) → P (Snapshot a b)) → ((a b : ℕ) → P (Read a b)) → (kind ≡ 3 → (a b : ℕ) → P (Write a b)) → ((a : ℕ) → P (Delete a)) → P Count → P (commandOf s p kind)
+  unfolding commandOf
+  of-known P kind f g h k l = go (eqb kind 1) (eqb kind 2) (eqb kind 3) (eqb kind 4) (eqb-true kind 3)
+    where
+      go : (a b c d : Bool) → (c ≡ true → kind ≡ 3) → P (cond a (Snapshot (pairAt s (p + 1)) (pairAt s (p + 3))) (cond b (Read (pairAt s (p + 1)) (pairAt s (p + 3))) (cond c (Write (pairAt s (p + 1)) (pairAt s (p + 3))) (cond d (Delete (pairAt s (p + 1))) Count))))
+      go true b c d t = f _ _
+      go false true c d t = g _ _
+      go false false true d t = h (t refl) _ _
+      go false false false true t = k _
+      go false false false false t = l
+
   -- only a write has the kind 3
   kind-three : (kind : ℕ) → kindOf (commandOf s p kind) ≡ 3 → kind ≡ 3
-  unfolding commandOf
-  kind-three kind e = go (eqb kind 1) (eqb kind 2) (eqb kind 3) (eqb kind 4) (eqb-true kind 3) e
-    where
-      go : (a b c d : Bool) → (c ≡ true → kind ≡ 3) → kindOf (cond a (Snapshot (pairAt s (p + 1)) (pairAt s (p + 3))) (cond b (Read (pairAt s (p + 1)) (pairAt s (p + 3))) (cond c (Write (pairAt s (p + 1)) (pairAt s (p + 3))) (cond d (Delete (pairAt s (p + 1))) Count)))) ≡ 3 → kind ≡ 3
-      go true b c d f x = absurd (omega (arith, x))
-      go false true c d f x = absurd (omega (arith, x))
-      go false false true d f x = f refl
-      go false false false true f x = absurd (omega (arith, x))
-      go false false false false f x = absurd (omega (arith, x))
+  kind-three kind = of-known (λ c. kindOf c ≡ 3 → kind ≡ 3) kind (λ a b e. absurd (omega (arith, e))) (λ a b e. absurd (omega (arith, e))) (λ t a b e. t) (λ a e. absurd (omega (arith, e))) (λ e. absurd (omega (arith, e)))
 
   -- and its row lies inside the stream
   pub write-inside : {tag row : ℕ} → stepAt width s p .command ≡ Write tag row → (p + 5) + width ≤ length s
@@ -114,3 +118,25 @@ module _ (width : ℕ) (s : List ℕ) (p : ℕ) where
       let c : commandOf s p (at s p) ≡ Write tag row = sym (ap (λ (x : Step). x .command) (step-whole r)) ∙ e in
       let k = kind-three (at s p) (rw c) in
       omega (arith, r .whole, size-three width (at s p) k)
+
+  -- a command of a known kind makes a call
+  known-calls : (kind : ℕ) → callAt width s p (commandOf s p kind) ≡ none → ⊥
+  known-calls kind = of-known (λ c. callAt width s p c ≡ none → ⊥) kind (λ a b e. none-some (sym e)) (λ a b e. none-some (sym e)) (λ t a b e. none-some (sym e)) (λ a e. none-some (sym e)) (λ e. none-some (sym e))
+
+  -- where no call is made, the next position is this one
+  no-call-stays : callAt width s p (stepAt width s p .command) ≡ none → stepAt width s p .next ≡ p
+  no-call-stays e = by-cases (decLe (length s) p)
+      (λ l. rw (step-over l))
+      (λ l. by-cases (ℕ-discrete (sizeOf width (at s p)) 0)
+      (λ f. rw (step-unknown (omega arith) f))
+      (λ f. by-cases (decLt (length s - p) (sizeOf width (at s p)))
+      (λ g. rw (step-cut (omega arith) f g))
+      (λ g. let w = step-whole (record { inside = omega arith; known = omega arith; whole = omega arith }) in absurd (known-calls (at s p) (sym (ap (λ (x : Step). callAt width s p (x .command)) w) ∙ e)))))
+
+  -- and only there
+  pub ends-stay : Decides (eqb (stepAt width s p .next) p) (callAt width s p (stepAt width s p .command) ≡ none)
+  ends-stay = decides-iff (eqb (stepAt width s p .next) p) (go (callAt width s p (stepAt width s p .command)) refl, no-call-stays) (decides-eqb (stepAt width s p .next) p)
+    where
+      go : (c : Option Call) → callAt width s p (stepAt width s p .command) ≡ c → stepAt width s p .next ≡ p → callAt width s p (stepAt width s p .command) ≡ none
+      go none f e = f
+      go (some c) f e = absurd (omega (arith, call-next f, e))

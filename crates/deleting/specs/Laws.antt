@@ -18,8 +18,8 @@ use Rattle.model.specs.Tests.{refusal-here, refusal-next, refusal-none}
 use Rattle.tree.specs.Nodes.{version-alive}
 use Rattle.nodes.specs.Nodes.{firstChild}
 use Rattle.removal.specs.Removal.{ghosted, emptied, spliced, relabelled}
+use Rattle.freeing.specs.Freeing.{Freeable}
 use Rattle.deleting.specs.Deleting.{left, prunedTree, prunedNode, prunedNode′, thin, settledTree, settledNode, deletedAt, deleted, deleteTests, deleteVerdict, Deletable}
-use Rattle.deleting.specs.Freeing.{Freeable}
 
 -- what a label becomes
 abbrev pub label : ℕ → ℕ → ℕ → ℕ → ℕ
@@ -83,11 +83,9 @@ module _ {z : Records} {v : ℕ} (d : Deletable z v) where
   freeable =
       let m = d .sound .measured in
       record {
-        linked = d .sound .linked;
+        fitting = record { halves = m .rows ∙ sym (m .nodes); few = m .within .rows .1; linked = d .sound .linked };
         used = used-node;
         excepting = d .sound .excepting;
-        halves = m .rows ∙ sym (m .nodes);
-        few = omega (arith, m .nodes, m .within .places .0, m .within .places .1);
       }
 
   -- the node that may be thin lies in the tree

@@ -1,3 +1,2 @@
 pub mod Deleting
-pub mod Freeing
 pub mod Laws

@@ -1,13 +1,9 @@
 // Deleting a snapshot: the places that only it reads are freed, wherever their entries stand; its node goes, or stays as a ghost for its children.
 ghost use mathlib.Core.Path.{_≡_};
-ghost use Prim.Native.Nat.{ℕ, _+_, _<_};
-ghost use lib.ListN.{length};
-ghost use Rattle.records.specs.Records.{treeOf, tableOf, recordsOf, table, InUse};
-ghost use Rattle.removal.specs.Removal.{ghosted, emptied, spliced, relabelled, Freed};
-ghost use Rattle.deleting.specs.Freeing.{freedPlace, Freeable};
+ghost use Prim.Native.Nat.{ℕ, _<_};
+ghost use Rattle.records.specs.Records.{recordsOf};
+ghost use Rattle.removal.specs.Removal.{ghosted, emptied, spliced, relabelled};
 ghost use Rattle.deleting.specs.Deleting.{left, prunedTree, prunedNode, settledTree, settledNode, deletedAt, Deletable, DeleteEnds};
-use measures::Place;
-use measures::Row;
 use measures::Size;
 use records::Tree;
 use tree::Found;
@@ -113,50 +109,13 @@ fn settled(tree: Tree, x: usize, node: &mut [u8]) -> Tree
     spliced(tree, x, w)
 }
 
-// The entry of a place, if it is a snapshot place, becomes free.
-fn free_place(rows: usize, node: &mut [u8], row: &mut [u16], place: Place)
-    requires { ⌜ (place .0 < rows + length (now node)) × (length (now row) ≡ length (now node)) ⌝ }
-    ensures { λ x. ⌜ (now (node .exit) ≡ freedPlace rows (place .0) (now (node .entry))) × (now (row .exit) ≡ freedPlace rows (place .0) (now (row .entry))) ⌝ }
-{
-    if measures::is_home(rows, place) {
-        return;
-    }
-    let i = measures::entry(rows, place);
-    node[i] = 0;
-    row[i] = 0;
-}
-
-// The entries that only the version at node v reads become free, row by row.
-fn free_rows<'a>(
-    state: &'a [u8; 128],
-    tag: &'a [u16; 128],
-    parent: &'a [u8; 128],
-    rows: usize,
-    node: &mut [u8],
-    row: &mut [u16],
-    v: usize,
-)
-    requires { ⌜ Freeable (treeOf (now state) (now tag) (now parent)) (tableOf rows (now node) (now row)) v ⌝ }
-    ensures { λ x. ⌜ Freed (treeOf (now (state .entry)) (now (tag .entry)) (now (parent .entry))) (tableOf rows (now (node .entry)) (now (row .entry))) v
-        (now (node .exit)) (now (row .exit)) ⌝ }
-{
-    let mut r: usize = 0;
-    while r < rows {
-        if !sharing::shared(state, tag, parent, rows, node, row, v, Row(r)) {
-            let place = reading::lookup(state, tag, parent, rows, node, row, v, Row(r));
-            free_place(rows, node, row, place);
-        }
-        r += 1;
-    }
-}
-
 // The version at node v goes, and with it what only it read.
 fn remove(size: Size, tree: Tree, node: &mut [u8], row: &mut [u16], v: usize) -> Tree
     requires { ⌜ Deletable (recordsOf size tree (now node) (now row)) v ⌝ }
     ensures { λ t. ⌜ left t (now (node .exit)) (now (row .exit)) ≡ deletedAt (recordsOf size tree (now (node .entry)) (now (row .entry))) v ⌝ }
 {
     let rows = size.rows;
-    free_rows(&tree.state, &tree.tag, &tree.parent, rows, node, row, v);
+    freeing::free_rows(&tree.state, &tree.tag, &tree.parent, rows, node, row, v);
     let stand = pruned(ghosted(tree, v), v);
     let next = stand.tree;
     let x = stand.node;

@@ -1,6 +1,6 @@
 // A store's measures, and the two units that must not be mixed: row numbers and place numbers.
 ghost use mathlib.Core.Path.{_≡_};
-ghost use Prim.Native.Nat.{_*_, _-_, _≤_, _<_};
+ghost use Prim.Native.Nat.{_≤_, _<_};
 ghost use Rattle.basics.specs.Decide.{Decides};
 ghost use Rattle.measures.specs.Measures.{Within, beginsAt};
 
@@ -75,24 +75,6 @@ pub fn row_number(row: Row) -> u16
     ensures { λ x. ⌜ x ≡ row .0 ⌝ }
 {
     row.0 as u16
-}
-
-// Is the place one of the origin's?
-pub fn is_home(rows: usize, place: Place) -> bool
-    ensures { λ b. ⌜ Decides b (place .0 < rows) ⌝ }
-{
-    if place.0 < rows {
-        return true;
-    }
-    false
-}
-
-// The entry of the table that stands for a snapshot's place.
-pub fn entry(rows: usize, place: Place) -> usize
-    requires { ⌜ rows ≤ place .0 ⌝ }
-    ensures { λ i. ⌜ i ≡ place .0 - rows ⌝ }
-{
-    place.0 - rows
 }
 
 // The first byte of a place.

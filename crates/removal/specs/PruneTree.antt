@@ -9,7 +9,7 @@ use lib.Dec.{eqb}
 use borrow.Author.Tests.{eqb-true}
 use Rattle.basics.specs.Decide.{at, and-no}
 use Rattle.basics.specs.Count.{first}
-use Rattle.basics.specs.CountLaws.{count-cong}
+use Rattle.basics.specs.CountLaws.{count-cong, first-same}
 use Rattle.records.specs.declared.Tree.{Tree}
 use Rattle.records.specs.Records.{InUse, Alive, Ghost, Snapshot, up, Child, Reaches, isSnapshot, snapshots, isVersion, version}
 use Rattle.records.specs.Sound.{States, Linked, Tagged}
@@ -18,12 +18,6 @@ use Rattle.tree.specs.Loops.{linked-reaches}
 use Rattle.tree.specs.Nodes.{version-no}
 use Rattle.edits.specs.WriteReaders.{alive-used}
 use Rattle.removal.specs.Below.{ghost-used, ghost-off, ghost-parent}
-
--- tests that agree find the same
-first-cong : (t u : ℕ → Bool) (n : ℕ) → ((k : ℕ) → k < n → t k ≡ u k) → first t n ≡ first u n
-unfolding first
-first-cong t u zero h = refl
-first-cong t u (suc n) h = rw (first-cong t u n (λ k l. h k (omega arith)), h n (omega arith))
 
 -- a node that does not live is no snapshot
 snapshot-no : (t : Tree) (n : ℕ) → at (t .state) n ≢ 1 → isSnapshot t n ≡ false
@@ -137,7 +131,7 @@ module _ {t t′ : Tree} {x : ℕ} (d : Drops t t′ x) where
 
   pub drop-version : (u : ℕ) → version t′ u ≡ version t u
   unfolding version isVersion
-  drop-version u = first-cong (isVersion t′ u) (isVersion t u) 128 (λ n l. by-cases (ℕ-discrete n x)
+  drop-version u = first-same (isVersion t′ u) (isVersion t u) 128 (λ n l. by-cases (ℕ-discrete n x)
       (λ h. version-no t′ u n (λ a e. dead n h .1 a) ∙ sym (version-no t u n (λ a e. dead n h .0 a)))
       (λ h. rw (d .states n h, d .tags n h)))
 

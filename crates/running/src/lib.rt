@@ -182,7 +182,7 @@ fn command(
         (recordsOf size (r .tree) (now (node .exit)) (now (row .exit))) (now (places .exit)) (now (out .exit)) (r .next) (r .end) ⌝ }
 {
     let width = size.width;
-    let step = commands::next(stream, p, width);
+    let step = commands::command_at(stream, p, width);
     let next = step.next;
     let found = step.command;
     match found {

@@ -172,13 +172,13 @@ module _ (t : Tree) (e : Table) where
 
 module _ (t : Tree) (e : Table) (marks : List ℕ) (h : Judging t e marks) where
   -- from a node in use, to meet g at row r is to read g's own row r
-  meets-reads : {g r i n : ℕ} → g ≢ 0 → r < e .rows → Owns e g r i → InUse t n → Meets t marks r g n → Reads t e r (e .rows + i) n
+  pub meets-reads : {g r i n : ℕ} → g ≢ 0 → r < e .rows → Owns e g r i → InUse t n → Meets t marks r g n → Reads t e r (e .rows + i) n
   meets-reads z l o u (here x) = own (λ y. z (sym x ∙ y)) (o .0, o .1 ∙ sym x, o .2) refl
   meets-reads {r = r} z l o u (above {n = n} x y f d) = Reads.above y
       (λ j p. h .marked .named n r j y (u .0) (omega (arith, h .fitting .few)) (p .0) p f)
       (meets-reads z l o (h .fitting .linked .parent n y u) d)
 
-  reads-meets : {g r i p n : ℕ} → p ≡ e .rows + i → r < e .rows → Owns e g r i → InUse t n → Reads t e r p n → Meets t marks r g n
+  pub reads-meets : {g r i p n : ℕ} → p ≡ e .rows + i → r < e .rows → Owns e g r i → InUse t n → Reads t e r p n → Meets t marks r g n
   reads-meets q l o u (origin x y) = absurd (omega arith)
   reads-meets {i = i} q l o u (own {i = j} z p y) = let k : j ≡ i = omega arith in here (sym (p .1) ∙ ap (at (e .node)) k ∙ o .1)
   reads-meets {g} {r} q l o u (Reads.above {n = n} z f d) = by-cases (ℕ-discrete n g) (λ x. here x)

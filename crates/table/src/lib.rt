@@ -60,7 +60,7 @@ fn enter<'a>(
 }
 
 // Rule 6.
-fn entries<'a>(
+pub fn entries<'a>(
     state: &'a [u8; 128],
     tag: &'a [u16; 128],
     parent: &'a [u8; 128],
@@ -83,7 +83,7 @@ fn entries<'a>(
 }
 
 // Is g the first node, from n up, that has its own row r? It has one, and so it is marked.
-fn meets<'a>(
+pub fn meets<'a>(
     state: &'a [u8; 128],
     tag: &'a [u16; 128],
     parent: &'a [u8; 128],

@@ -9,8 +9,8 @@ use Rattle.running.specs.Laws.{ran-step, ran-read, ran-write, ran-end, u
 use Rattle.running.proofs.command.Statement.{statement}
 use Rattle.running.proofs.command.Tie as tie
 
-next-requires : tie.Need-next-requires
-next-requires c κs = search needs
+command-at-requires : tie.Need-command-at-requires
+command-at-requires c κs = search needs
 
 enum-known-found : tie.Need-enum-known-found
 enum-known-found c = search needs
@@ -49,7 +49,7 @@ part-bytes-start : tie.Need-part-bytes-start
 part-bytes-start c = search needs
 
 part-bytes-end : tie.Need-part-bytes-end
-part-bytes-end c = omega (arith, write-inside _ _ _ (ap (λ (x : Step). x .command) (sym (c .before .before .before .next .ensures)) ∙ c .before .found3 .given .1), c .before .before .before .before .before .before .before .before .before .pre)
+part-bytes-end c = omega (arith, write-inside _ _ _ (ap (λ (x : Step). x .command) (sym (c .before .before .before .command-at .ensures)) ∙ c .before .found3 .given .1), c .before .before .before .before .before .before .before .before .before .pre)
 
 wide16-requires-2 : tie.Need-wide16-requires-2
 wide16-requires-2 c κs = search needs
@@ -100,7 +100,7 @@ same-length-3 : tie.Need-same-length-3
 same-length-3 c = search needs
 
 returns : tie.Need-returns
-returns c = let g = c .going-on .ensures in rw (g .0, g .1, g .2) (ran-step _ (c .before .before .before .before .before .before .before .before .before .before .next .ensures) (c .before .before .before .before .before .before .before .before .found .given .1) refl (c .before .before .before .reply-snapshot .ensures _))
+returns c = let g = c .going-on .ensures in rw (g .0, g .1, g .2) (ran-step _ (c .before .before .before .before .before .before .before .before .before .before .command-at .ensures) (c .before .before .before .before .before .before .before .before .found .given .1) refl (c .before .before .before .reply-snapshot .ensures _))
 
 same-length-4 : tie.Need-same-length-4
 same-length-4 c = search needs
@@ -115,7 +115,7 @@ same-length-7 : tie.Need-same-length-7
 same-length-7 c = search needs
 
 returns-2 : tie.Need-returns-2
-returns-2 c = ran-read (c .before .before .before .before .before .before .before .before .before .before .before .next .ensures) (c .before .before .before .before .before .before .before .before .before .found2 .given .1) (c .before .before .before .before .wide16 .ensures) (c .before .before .reply-read .ensures)
+returns-2 c = ran-read (c .before .before .before .before .before .before .before .before .before .before .before .command-at .ensures) (c .before .before .before .before .before .before .before .before .before .found2 .given .1) (c .before .before .before .before .wide16 .ensures) (c .before .before .reply-read .ensures)
 
 same-length-8 : tie.Need-same-length-8
 same-length-8 c = search needs
@@ -130,7 +130,7 @@ same-length-11 : tie.Need-same-length-11
 same-length-11 c = search needs
 
 returns-3 : tie.Need-returns-3
-returns-3 c = let g = c .going-on2 .ensures in rw (g .0, g .1, g .2) (ran-write (c .before .before .before .before .before .before .before .before .before .before .before .before .before .before .before .before .before .before .before .next .ensures) (c .before .before .before .before .before .before .before .before .before .before .before .before .before .before .before .before .before .found3 .given .1) (c .before .before .before .before .before .before .before .before .before .before .before .wide162 .ensures) (row-part _ _ _) (c .before .before .before .before .before .before .before .before .before .reply-write .ensures))
+returns-3 c = let g = c .going-on2 .ensures in rw (g .0, g .1, g .2) (ran-write (c .before .before .before .before .before .before .before .before .before .before .before .before .before .before .before .before .before .before .before .command-at .ensures) (c .before .before .before .before .before .before .before .before .before .before .before .before .before .before .before .before .before .found3 .given .1) (c .before .before .before .before .before .before .before .before .before .before .before .wide162 .ensures) (row-part _ _ _) (c .before .before .before .before .before .before .before .before .before .reply-write .ensures))
 
 same-length-12 : tie.Need-same-length-12
 same-length-12 c = search needs
@@ -142,7 +142,7 @@ same-length-14 : tie.Need-same-length-14
 same-length-14 c = search needs
 
 returns-4 : tie.Need-returns-4
-returns-4 c = let g = c .going-on3 .ensures in rw (g .0, g .1, g .2) (ran-step _ (c .before .before .before .before .before .before .before .before .before .before .before .before .before .before .next .ensures) (c .before .before .before .before .before .before .before .before .before .before .before .before .found4 .given .1) refl (c .before .before .before .before .before .before .before .reply-delete .ensures _))
+returns-4 c = let g = c .going-on3 .ensures in rw (g .0, g .1, g .2) (ran-step _ (c .before .before .before .before .before .before .before .before .before .before .before .before .before .before .command-at .ensures) (c .before .before .before .before .before .before .before .before .before .before .before .before .found4 .given .1) refl (c .before .before .before .before .before .before .before .reply-delete .ensures _))
 
 same-length-15 : tie.Need-same-length-15
 same-length-15 c = search needs
@@ -154,28 +154,28 @@ same-length-17 : tie.Need-same-length-17
 same-length-17 c = search needs
 
 returns-5 : tie.Need-returns-5
-returns-5 c = ran-step _ (c .before .before .before .before .before .before .before .before .next .ensures) (c .before .before .before .before .before .before .enum-told .given .1) refl (c .before .before .reply-count .ensures _)
+returns-5 c = ran-step _ (c .before .before .before .before .before .before .before .before .command-at .ensures) (c .before .before .before .before .before .before .enum-told .given .1) refl (c .before .before .reply-count .ensures _)
 
 same-length-18 : tie.Need-same-length-18
 same-length-18 c = search needs
 
 returns-6 : tie.Need-returns-6
-returns-6 c = ran-end _ (c .before .before .before .before .before .before .next .ensures) (c .before .before .before .before .enum-told2 .given .1) refl (c .before .before .before .before .before .before .before .before .before .before .before .before .pre .0) (unknown-line _) (dash-most _ _) (c .before .before .plain-line .ensures)
+returns-6 c = ran-end _ (c .before .before .before .before .before .before .command-at .ensures) (c .before .before .before .before .enum-told2 .given .1) refl (c .before .before .before .before .before .before .before .before .before .before .before .before .pre .0) (unknown-line _) (dash-most _ _) (c .before .before .plain-line .ensures)
 
 same-length-19 : tie.Need-same-length-19
 same-length-19 c = search needs
 
 returns-7 : tie.Need-returns-7
-returns-7 c = ran-end _ (c .before .before .before .before .before .before .next .ensures) (c .before .before .before .before .enum-told3 .given .1) refl (c .before .before .before .before .before .before .before .before .before .before .before .before .pre .0) (cut-line _) (dash-most _ _) (c .before .before .plain-line2 .ensures)
+returns-7 c = ran-end _ (c .before .before .before .before .before .before .command-at .ensures) (c .before .before .before .before .enum-told3 .given .1) refl (c .before .before .before .before .before .before .before .before .before .before .before .before .pre .0) (cut-line _) (dash-most _ _) (c .before .before .plain-line2 .ensures)
 
 returns-8 : tie.Need-returns-8
-returns-8 c = ran-end _ (c .before .before .next .ensures) (c .enum-told4 .given .1) refl (c .before .before .before .before .before .before .before .before .pre .0) (over-line _) (omega arith) (lays-none _ _ (omega (arith, c .before .before .before .before .before .before .before .before .pre)))
+returns-8 c = ran-end _ (c .before .before .command-at .ensures) (c .enum-told4 .given .1) refl (c .before .before .before .before .before .before .before .before .pre .0) (over-line _) (omega arith) (lays-none _ _ (omega (arith, c .before .before .before .before .before .before .before .before .pre)))
 
 pub command-spec : {M : Type 1} → statement M
 command-spec =
     tie.close
     (tie.spec
-    next-requires
+    command-at-requires
     enum-known-found
     reply-snapshot-requires
     going-on-requires

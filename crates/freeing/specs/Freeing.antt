@@ -1,0 +1,34 @@
+-- Who reads an entry, by marks: the version at one node, and others. Definitions only. Assumes nothing.
+use mathlib.Core.Logic.{_≢_}
+use mathlib.Core.List.{List}
+use Prim.Native.Nat.{ℕ}
+use Rattle.records.specs.declared.Tree.{Tree}
+use Rattle.records.specs.Records.{Table, InUse, Alive}
+use Rattle.records.specs.Sound.{Linked, Excepting}
+use Rattle.table.specs.Rules.{Fitting, MarkedRow, Meets}
+
+-- what freeing asks: a node in use of a linked tree, and a table that meets rule 6, its halves as long, its rows few
+pub record Freeable (t : Tree) (e : Table) (v : ℕ) : Type 0 where
+  pub fitting : Fitting t e
+  pub used : InUse t v
+  pub excepting : Excepting t e
+
+-- a living version other than the one at node v, the one at node n, reads node g's own row r
+abbrev pub OtherMeets : Tree → List ℕ → ℕ → ℕ → ℕ → ℕ → Type 0
+OtherMeets t marks v g r n = Alive t n × (n ≢ v) × Meets t marks r g n
+
+-- some other does
+abbrev pub OthersMeet : Tree → List ℕ → ℕ → ℕ → ℕ → Type 0
+OthersMeet t marks v g r = (n : ℕ) × Alive t n × (n ≢ v) × Meets t marks r g n
+
+-- the version at node v reads it, and no other
+pub record MeetsAlone (t : Tree) (marks : List ℕ) (v g r : ℕ) : Type 0 where
+  pub below : g ≢ 0
+  pub meets : Meets t marks r g v
+  pub alone : OthersMeet t marks v g r → ⊥
+
+-- a node v in use of a linked tree, and a row with marks, if g is a node other than 0
+pub record Asking (t : Tree) (marks : List ℕ) (v g r : ℕ) : Type 0 where
+  pub linked : Linked t
+  pub used : InUse t v
+  pub row : g ≢ 0 → MarkedRow marks r

@@ -1,0 +1,168 @@
+// Freeing what only one version reads, entry by entry, with a mark for each node and row that an entry names.
+ghost use mathlib.Core.Path.{_≡_};
+ghost use Prim.Native.Nat.{_<_};
+ghost use Rattle.basics.specs.Decide.{Decides};
+ghost use Rattle.records.specs.Records.{treeOf, tableOf, InUse};
+ghost use Rattle.table.specs.Rules.{Entering, Seeking, Judging};
+ghost use Rattle.removal.specs.Removal.{Freed};
+ghost use Rattle.freeing.specs.Freeing.{Freeable, Asking, OtherMeets, OthersMeet, MeetsAlone};
+
+// A byte as an index, and a 16-bit number.
+fn wide(x: u8) -> usize
+    ensures { λ r. ⌜ r ≡ x ⌝ }
+{
+    x as usize
+}
+
+fn wide16(x: u16) -> usize
+    ensures { λ r. ⌜ r ≡ x ⌝ }
+{
+    x as usize
+}
+
+// Does a living version other than the one at node v, the one at node n, read node g's own row r?
+fn other_reads<'a>(
+    state: &'a [u8; 128],
+    tag: &'a [u16; 128],
+    parent: &'a [u8; 128],
+    marks: &'a [u8],
+    n: usize,
+    v: usize,
+    g: usize,
+    r: usize,
+) -> bool
+    requires { ⌜ (n < 128) × Seeking (treeOf (now state) (now tag) (now parent)) (now marks) g r ⌝ }
+    ensures { λ b. ⌜ Decides b (OtherMeets (treeOf (now (state .entry)) (now (tag .entry)) (now (parent .entry))) (now (marks .entry)) v g r n) ⌝ }
+{
+    if n == v {
+        return false;
+    }
+    if state[n] != 1 {
+        return false;
+    }
+    if table::meets(state, tag, parent, marks, n, g, r) {
+        return true;
+    }
+    false
+}
+
+// Does any living version other than the one at node v read it?
+fn others_read<'a>(
+    state: &'a [u8; 128],
+    tag: &'a [u16; 128],
+    parent: &'a [u8; 128],
+    marks: &'a [u8],
+    v: usize,
+    g: usize,
+    r: usize,
+) -> bool
+    requires { ⌜ Seeking (treeOf (now state) (now tag) (now parent)) (now marks) g r ⌝ }
+    ensures { λ b. ⌜ Decides b (OthersMeet (treeOf (now (state .entry)) (now (tag .entry)) (now (parent .entry))) (now (marks .entry)) v g r) ⌝ }
+{
+    let mut n: usize = 0;
+    while n < 128 {
+        if other_reads(state, tag, parent, marks, n, v, g, r) {
+            return true;
+        }
+        n += 1;
+    }
+    false
+}
+
+// Does the version at node v read node g's own row r, and no other?
+fn alone<'a>(
+    state: &'a [u8; 128],
+    tag: &'a [u16; 128],
+    parent: &'a [u8; 128],
+    marks: &'a [u8],
+    v: usize,
+    g: usize,
+    r: usize,
+) -> bool
+    requires { ⌜ Asking (treeOf (now state) (now tag) (now parent)) (now marks) v g r ⌝ }
+    ensures { λ b. ⌜ Decides b (MeetsAlone (treeOf (now (state .entry)) (now (tag .entry)) (now (parent .entry))) (now (marks .entry)) v g r) ⌝ }
+{
+    if g == 0 {
+        return false;
+    }
+    if !table::meets(state, tag, parent, marks, v, g, r) {
+        return false;
+    }
+    if others_read(state, tag, parent, marks, v, g, r) {
+        return false;
+    }
+    true
+}
+
+// The entries that only the version at node v reads become free. The marks are those of the table as it was.
+fn free_alone<'a>(
+    state: &'a [u8; 128],
+    tag: &'a [u16; 128],
+    parent: &'a [u8; 128],
+    rows: usize,
+    node: &mut [u8],
+    row: &mut [u16],
+    marks: &'a [u8],
+    v: usize,
+)
+    requires { ⌜ InUse (treeOf (now state) (now tag) (now parent)) v
+        × Judging (treeOf (now state) (now tag) (now parent)) (tableOf rows (now node) (now row)) (now marks) ⌝ }
+    ensures { λ x. ⌜ Freed (treeOf (now (state .entry)) (now (tag .entry)) (now (parent .entry))) (tableOf rows (now (node .entry)) (now (row .entry))) v
+        (now (node .exit)) (now (row .exit)) ⌝ }
+{
+    let mut i: usize = 0;
+    while i < node.len() {
+        let g = wide(node[i]);
+        let r = wide16(row[i]);
+        if alone(state, tag, parent, marks, v, g, r) {
+            node[i] = 0;
+            row[i] = 0;
+        }
+        i += 1;
+    }
+}
+
+// The same, with marks that are all 0.
+fn free_marked<'a>(
+    state: &'a [u8; 128],
+    tag: &'a [u16; 128],
+    parent: &'a [u8; 128],
+    rows: usize,
+    node: &mut [u8],
+    row: &mut [u16],
+    marks: &mut [u8],
+    v: usize,
+)
+    requires { ⌜ Freeable (treeOf (now state) (now tag) (now parent)) (tableOf rows (now node) (now row)) v
+        × Entering (tableOf rows (now node) (now row)) (now marks) 0 ⌝ }
+    ensures { λ x. ⌜ Freed (treeOf (now (state .entry)) (now (tag .entry)) (now (parent .entry))) (tableOf rows (now (node .entry)) (now (row .entry))) v
+        (now (node .exit)) (now (row .exit)) ⌝ }
+{
+    if !table::entries(state, tag, parent, rows, node, row, marks) {
+        return;
+    }
+    free_alone(state, tag, parent, rows, node, row, marks, v);
+}
+
+// The entries that only the version at node v reads become free. Few rows need few marks.
+pub fn free_rows<'a>(
+    state: &'a [u8; 128],
+    tag: &'a [u16; 128],
+    parent: &'a [u8; 128],
+    rows: usize,
+    node: &mut [u8],
+    row: &mut [u16],
+    v: usize,
+)
+    requires { ⌜ Freeable (treeOf (now state) (now tag) (now parent)) (tableOf rows (now node) (now row)) v ⌝ }
+    ensures { λ x. ⌜ Freed (treeOf (now (state .entry)) (now (tag .entry)) (now (parent .entry))) (tableOf rows (now (node .entry)) (now (row .entry))) v
+        (now (node .exit)) (now (row .exit)) ⌝ }
+{
+    if rows <= 128 {
+        let mut marks = [0u8; 16384];
+        free_marked(state, tag, parent, rows, node, row, &mut marks, v);
+        return;
+    }
+    let mut marks = [0u8; 131072];
+    free_marked(state, tag, parent, rows, node, row, &mut marks, v);
+}
