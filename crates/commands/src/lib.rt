@@ -2,8 +2,7 @@
 //     1 snapshot: source tag, new tag    2 read: tag, row    3 write: tag, row, the row's bytes    4 delete: tag    5 count
 ghost use mathlib.Core.Path.{_≡_};
 ghost use mathlib.Core.Option.{none};
-ghost use Prim.Native.Nat.{ℕ, _+_, _≤_, _<_};
-ghost use lib.ListN.{length};
+ghost use Prim.Native.Nat.{_+_, _≤_, _<_};
 ghost use Rattle.basics.specs.Decide.{at, Decides};
 ghost use Rattle.commands.specs.Format.{sizeOf, commandOf, stepAt, callAt, Reading};
 

@@ -1,6 +1,6 @@
 // Deleting a snapshot: the places that only it reads are freed, wherever their entries stand; its node goes, or stays as a ghost for its children.
 ghost use mathlib.Core.Path.{_≡_};
-ghost use Prim.Native.Nat.{ℕ, _<_};
+ghost use Prim.Native.Nat.{_<_};
 ghost use Rattle.records.specs.Records.{recordsOf};
 ghost use Rattle.removal.specs.Removal.{ghosted, emptied, spliced, relabelled};
 ghost use Rattle.deleting.specs.Deleting.{left, prunedTree, prunedNode, settledTree, settledNode, deletedAt, Deletable, DeleteEnds};

@@ -2,10 +2,10 @@
 -- Then who lives and reads what, by tag. Assumes nothing.
 use mathlib.Core.Path.{_≡_, refl, sym, _∙_, ap}
 use mathlib.Core.Logic.{_≢_, by-cases}
-use mathlib.Core.Bool.{Bool, true, false, false≢true}
+use mathlib.Core.Bool.{true, false, false≢true}
 use mathlib.Core.List.{List}
 use mathlib.Core.Option.{Option, none, some}
-use Prim.Native.Nat.{ℕ, _+_, _<_}
+use Prim.Native.Nat.{ℕ, _<_}
 use native.Mathlib.Decide.{ℕ-discrete}
 use native.Mathlib.Omega.{arith}
 use lib.ListN.{length, set}
@@ -13,8 +13,8 @@ use lib.Seq.{getD-set-same, getD-set-other}
 use Rattle.basics.specs.Decide.{at}
 use Rattle.basics.specs.CountLaws.{first-only, first-nothing}
 use Rattle.records.specs.declared.Tree.{Tree}
-use Rattle.records.specs.Records.{Table, Records, table, InUse, Alive, Snapshot, up, Reaches, isVersion, version}
-use Rattle.records.specs.Reading.{entry, placeOr, place, isFound, lives, placeBy, tagPlace}
+use Rattle.records.specs.Records.{Table, Records, table, InUse, Alive, up, Reaches, isVersion, version}
+use Rattle.records.specs.Reading.{entry, placeOr, place, isFound, lives, tagPlace}
 use Rattle.records.specs.Sound.{States, Linked, Tagged, Sound}
 use Rattle.tree.specs.Going.{reaches-ind, reaches-root}
 use Rattle.tree.specs.Nodes.{version-yes, version-no, version-of, version-alive}

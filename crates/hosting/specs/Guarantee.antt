@@ -1,7 +1,7 @@
 -- THE GUARANTEE for a host in C: any list of calls on lent bytes answers as the reference model, and leaves bytes of what the model has.
 -- Each call loads the records that the bytes are, and what it stores is loaded again as it was. Assumes nothing.
-use mathlib.Core.Path.{_≡_, refl, sym, _∙_, ap}
-use mathlib.Core.Bool.{Bool, true, false, not, cond}
+use mathlib.Core.Path.{_≡_, refl, sym, ap}
+use mathlib.Core.Bool.{Bool, true, false, not}
 use mathlib.Core.List.{List, [], _∷_, map}
 use mathlib.Core.Option.{Option, none, some}
 use Prim.Native.Nat.{ℕ, _+_, _*_, _≤_}
@@ -10,13 +10,12 @@ use lib.Dec.{eqb, leb}
 use lib.ListN.{length, drop, replicate, length-replicate, length-drop}
 use lib.Seq.{length-take-le}
 use borrow.Author.Tests.{eq-eqb, ne-eqb, eqb-true, not-false}
-use Rattle.basics.specs.Decide.{not-no}
 use Rattle.measures.specs.declared.Size.{Size}
 use Rattle.measures.specs.Measures.{Within}
 use Rattle.records.specs.declared.Tree.{Tree}
 use Rattle.records.specs.Records.{Records, recordsOf}
 use Rattle.records.specs.Reading.{lives}
-use Rattle.model.specs.Call.{Call, snapshot, read, write, delete, count, Refusal, bad-size, bad-length, bad-row, unknown-tag, done, row, refused, number, numberOf, rowOf}
+use Rattle.model.specs.Call.{Call, Refusal, bad-size, bad-length, bad-row, unknown-tag, row, refused, number}
 use Rattle.model.specs.Model.{Model, opened, answers, final, refusal, unless, inMeasure}
 use Rattle.model.specs.Tests.{refusal-passed, measure-in}
 use Rattle.soundness.specs.Judged.{Leaves, judged-sound}
@@ -31,7 +30,7 @@ use Rattle.view.specs.View.{Store, started}
 use Rattle.view.specs.Starts.{open-agrees}
 use Rattle.steps.specs.Begins.{start-call}
 use Rattle.steps.specs.Calls.{Runs, snapshot-call, write-call, delete-call}
-use Rattle.theorem.specs.Trace.{State, state, Handed, handed, Call-ends, Trace, handedOf, Equals}
+use Rattle.theorem.specs.Trace.{state, Handed, handed, Call-ends, Trace, handedOf, Equals}
 use Rattle.theorem.specs.Trace as trace
 use Rattle.theorem.specs.Theorem.{one-call, any-list, theorem-sound}
 use Rattle.laying.specs.Laws.{numbers-size}

@@ -1,7 +1,7 @@
 -- Laws of the layout: how long its parts are, and what is laid part by part is the whole. Assumes nothing.
-use mathlib.Core.Path.{_≡_, refl, sym, _∙_, ap}
+use mathlib.Core.Path.{_≡_, _∙_, ap}
 use mathlib.Core.List.{List, [], _∷_, _++_, append-nil}
-use Prim.Native.Nat.{ℕ, zero, suc, _+_, _-_, _*_, _≤_, _<_}
+use Prim.Native.Nat.{ℕ, _+_, _-_, _*_}
 use native.Mathlib.Omega.{arith}
 use lib.ListN.{length, take, drop, length-append, drop-of-length-le}
 use Rattle.measures.specs.declared.Size.{Size}
@@ -9,7 +9,7 @@ use Rattle.records.specs.declared.Tree.{Tree}
 use Rattle.records.specs.Records.{Records, recordsOf, treeOf}
 use Rattle.laying.specs.Laid.{laid, Lays, pairs, numbers}
 use Rattle.laying.specs.Laws.{lays-then, lays-as, pairs-size}
-use Rattle.layout.specs.Layout.{entries, recordsSize, treeBytes, tableBytes, stored, sizeAt, part, loaded}
+use Rattle.layout.specs.Layout.{entries, recordsSize, treeBytes, tableBytes, stored, sizeAt, loaded}
 
 -- Lengths
 

@@ -1,7 +1,7 @@
 // The records as bytes: where each part lies is drawn in specs/Layout.antt.
 ghost use mathlib.Core.Path.{_≡_};
 ghost use mathlib.Core.List.{[], _∷_};
-ghost use Prim.Native.Nat.{ℕ, _+_, _*_, _≤_, _<_};
+ghost use Prim.Native.Nat.{_+_, _*_, _≤_, _<_};
 ghost use lib.ListN.{length};
 ghost use Rattle.basics.specs.Decide.{Decides};
 ghost use Rattle.measures.specs.Measures.{Within};

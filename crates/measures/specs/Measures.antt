@@ -1,5 +1,5 @@
 -- A store's measures: L rows of B bytes in P places (document 01, "The store and its measures"). Assumes nothing.
-use Prim.Native.Nat.{ℕ, _+_, _*_, _≤_}
+use Prim.Native.Nat.{ℕ, _*_, _≤_}
 use mathlib.Core.List.{List}
 use lib.ListN.{take, drop}
 use Rattle.measures.specs.declared.Size.{Size}

@@ -1,11 +1,11 @@
 -- The reference model's answers on document 01's worked stream, and on a stream with every refusal, by evaluation. Assumes nothing.
 use mathlib.Core.Path.{_≡_, refl}
 use mathlib.Core.List.{List, [], _∷_, map}
-use mathlib.Core.Option.{Option, none, some}
+use mathlib.Core.Option.{none, some}
 use Prim.Native.Nat.{ℕ, zero, suc}
 use lib.ListN.{replicate}
 use Rattle.measures.specs.declared.Size.{Size}
-use Rattle.model.specs.Call.{Call, snapshot, read, write, delete, count, bad-size, bad-length, Answer, done, row, counts, refused, bad-row, zero-tag, origin-tag, unknown-tag, tag-alive, snapshots-full, places-full, numberOf, usedOf, snapshotsOf, rowOf}
+use Rattle.model.specs.Call.{Call, snapshot, read, write, delete, count, bad-size, bad-length, done, row, counts, refused, bad-row, zero-tag, origin-tag, unknown-tag, tag-alive, snapshots-full, places-full}
 use Rattle.model.specs.Model.{any, different, alive, snapshotsAlive, shared, placesUsed, refusal, inMeasure, openTests, tests, accepted, adopt, put, without, effect, opened, verdict, answer, after, answers, final}
 
 -- L = 4, B = 8, P = 6

@@ -1,7 +1,7 @@
 // Nodes for a change of the tree: an empty one, a child, and the tree with one node changed.
 ghost use mathlib.Core.Path.{_≡_};
 ghost use mathlib.Core.Option.{some};
-ghost use Prim.Native.Nat.{ℕ, _<_};
+ghost use Prim.Native.Nat.{_<_};
 ghost use Rattle.records.specs.Records.{treeOf, nodesUsed, children};
 ghost use Rattle.tree.specs.Rules.{foundOf};
 ghost use Rattle.edits.specs.Edits.{grown, hung, split};

@@ -1,21 +1,20 @@
 -- The records of an accepted opening are sound. Assumes nothing.
 use mathlib.Core.Path.{_≡_, refl, sym, _∙_}
 use mathlib.Core.Logic.{_≢_, by-cases}
-use Prim.Native.Nat.{ℕ, zero, suc, _-_, _≤_, _<_}
+use Prim.Native.Nat.{ℕ, zero, suc, _-_}
 use native.Mathlib.Decide.{ℕ-discrete}
 use native.Mathlib.Omega.{arith}
-use lib.ListN.{length, replicate, length-replicate, set}
+use lib.ListN.{replicate, length-replicate}
 use lib.Seq.{getD-set-other}
 use Rattle.basics.specs.Decide.{at, both, not-of}
 use Rattle.basics.specs.CountLaws.{count-one}
 use borrow.Author.Tests.{eqb-true}
 use Rattle.measures.specs.declared.Size.{Size}
 use Rattle.measures.specs.Measures.{Within}
-use Rattle.records.specs.Records.{recordsOf, table, isSnapshot, snapshots}
-use Rattle.records.specs.Reading.{Owns}
-use Rattle.records.specs.Sound.{Measured, States, Linked, Tagged, Branching, Excepting, AllRead, Sound}
+use Rattle.records.specs.Records.{recordsOf, isSnapshot, snapshots}
+use Rattle.records.specs.Sound.{States, Tagged, Sound}
 use Rattle.opening.specs.Opening.{firstTree}
-use mathlib.Core.Bool.{true, not}
+use mathlib.Core.Bool.{not}
 use lib.Dec.{eqb}
 
 zero-at : (n k : ℕ) → at (replicate n 0) k ≡ 0

@@ -1,6 +1,5 @@
 // Opening a store: all that was lent becomes zero, and the tree is node 0 alone.
 ghost use mathlib.Core.Path.{_≡_};
-ghost use Prim.Native.Nat.{ℕ};
 ghost use lib.ListN.{length, replicate};
 ghost use Rattle.opening.specs.Opening.{firstTree, noTree, Opening};
 use measures::Size;

@@ -1,26 +1,25 @@
 -- The ways out of read, one for each test, and that a place read lies inside the places. Assumes nothing.
-use mathlib.Core.Path.{_≡_, refl, sym, _∙_, ap}
-use mathlib.Core.Logic.{_≢_}
-use mathlib.Core.Bool.{Bool, true, false, not}
+use mathlib.Core.Path.{_≡_, sym, _∙_}
+use mathlib.Core.Bool.{not}
 use mathlib.Core.List.{List, [], _∷_}
-use mathlib.Core.Option.{Option, none, some}
+use mathlib.Core.Option.{none, some}
 use Prim.Native.Nat.{ℕ, suc, _+_, _*_, _≤_, _<_}
 use native.Mathlib.Nat.{mul-le-mul-right, suc-mul}
 use native.Mathlib.Omega.{arith}
-use lib.Dec.{eqb, leb}
+use lib.Dec.{leb}
 use lib.ListN.{length}
 use borrow.Author.Tests.{eq-eqb, ne-eqb, le-leb, lt-leb}
 use Rattle.basics.specs.Decide.{not-yes, not-no}
-use Rattle.measures.specs.Measures.{beginsAt, bytesAt}
+use Rattle.measures.specs.Measures.{bytesAt}
 use Rattle.records.specs.declared.Tree.{Tree}
-use Rattle.records.specs.Records.{Records, table, Alive, InUse, version}
+use Rattle.records.specs.Records.{Records, table, InUse, version}
 use Rattle.records.specs.Reading.{place, lives, tagPlace}
 use Rattle.records.specs.Sound.{Sound}
 use Rattle.tree.specs.Nodes.{version-alive}
 use Rattle.reading.specs.Lookup.{Looking}
 use Rattle.reading.specs.Used.{place-low}
 use Rattle.model.specs.Call.{Refusal, bad-length, bad-row, unknown-tag, number}
-use Rattle.model.specs.Model.{Tests, refusal, unless}
+use Rattle.model.specs.Model.{Tests, refusal}
 use Rattle.model.specs.Tests.{refusal-here, refusal-next, refusal-none}
 use Rattle.placing.specs.Placing.{Inside}
 use Rattle.queries.specs.Queries.{Hands, readTests, rowOfTag, readAnswer}

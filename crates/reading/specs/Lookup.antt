@@ -1,9 +1,9 @@
 -- What the lookup asks, and what its loops keep. Assumes nothing.
-use mathlib.Core.Path.{_≡_, refl, sym, _∙_, ap}
+use mathlib.Core.Path.{_≡_, refl, _∙_}
 use mathlib.Core.Logic.{_≢_}
 use mathlib.Core.Bool.{true, false}
 use mathlib.Core.Option.{none, some}
-use Prim.Native.Nat.{ℕ, zero, _+_, _-_, _≤_, _<_}
+use Prim.Native.Nat.{ℕ, _+_, _-_, _≤_, _<_}
 use native.Mathlib.Omega.{arith}
 use lib.ListN.{length}
 use Rattle.basics.specs.Decide.{at, not-yes, not-no}
@@ -12,7 +12,7 @@ use Rattle.basics.specs.CountLaws.{first-yes, first-no, first-more, count-yes, 
 use borrow.Author.Tests.{eq-eqb, ne-eqb}
 use Rattle.records.specs.declared.Tree.{Tree}
 use Rattle.records.specs.Records.{Table, InUse, up, taken}
-use Rattle.records.specs.Reading.{Owns, owns, entry, climb, place}
+use Rattle.records.specs.Reading.{owns, entry, climb, place}
 use Rattle.tree.specs.Rules.{Climbs}
 use Rattle.reading.specs.Reads.{owns-yes, owns-of, climb-root, climb-own, climb-up}
 

@@ -1,7 +1,7 @@
 -- Laws of reading: one place, and only one, at every node in use; the function gives what the relation says. Assumes nothing.
 use mathlib.Core.Path.{_≡_, refl, sym, _∙_, ap}
 use mathlib.Core.Logic.{_≢_, _↔_, by-cases}
-use mathlib.Core.Bool.{Bool, true, false, _&&_, false≢true}
+use mathlib.Core.Bool.{true, false≢true}
 use mathlib.Core.Option.{Option, none, some}
 use Prim.Native.Nat.{ℕ, zero, suc, _+_, _≤_, _<_}
 use native.Mathlib.Decide.{ℕ-discrete}
@@ -11,13 +11,12 @@ use lib.Dec.{eqb}
 use lib.ListN.{length}
 use borrow.Author.Tests.{eq-eqb, ne-eqb, eqb-true}
 use Rattle.basics.specs.Decide.{at, and-yes, both}
-use Rattle.basics.specs.Count.{first}
 use Rattle.basics.specs.CountLaws.{first-some, first-none, first-only}
 use Rattle.records.specs.declared.Tree.{Tree}
-use Rattle.records.specs.Records.{Table, InUse, up, ancestor, Reaches}
+use Rattle.records.specs.Records.{Table, InUse, up, ancestor}
 use Rattle.records.specs.Reading.{Owns, Reads, origin, own, above, owns, entry, placeOr, climb, place}
 use Rattle.records.specs.Sound.{Linked, Excepting}
-use Rattle.tree.specs.Going.{ancestor-zero, ancestor-up, near}
+use Rattle.tree.specs.Going.{ancestor-zero, near}
 
 -- A node's own row
 

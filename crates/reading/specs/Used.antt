@@ -1,9 +1,8 @@
 -- The places in use of sound records are exactly those that living versions read. Assumes nothing.
-use mathlib.Core.Path.{_≡_, refl, sym, _∙_, ap}
-use mathlib.Core.Logic.{_≢_, _↔_, _⊎_, inl, inr}
+use mathlib.Core.Path.{_≡_, sym, _∙_}
+use mathlib.Core.Logic.{_↔_, inl, inr}
 use Prim.Native.Nat.{ℕ, _+_, _<_}
 use native.Mathlib.Omega.{arith}
-use lib.ListN.{length}
 use Rattle.basics.specs.Decide.{at}
 use Rattle.records.specs.declared.Tree.{Tree}
 use Rattle.records.specs.Records.{Table, Records, table, InUse, Alive, PlaceUsed}

@@ -1,8 +1,8 @@
 // Where a row is read: a node's own entry in the table, the place that a node reads, and the places in use.
 ghost use mathlib.Core.Path.{_≡_};
-ghost use Prim.Native.Nat.{ℕ, _+_, _≤_, _<_};
+ghost use Prim.Native.Nat.{_+_, _≤_, _<_};
 ghost use lib.ListN.{length};
-ghost use Rattle.basics.specs.Decide.{Decides, at};
+ghost use Rattle.basics.specs.Decide.{Decides};
 ghost use Rattle.records.specs.Records.{treeOf, tableOf, used};
 ghost use Rattle.records.specs.Reading.{entry, place};
 ghost use Rattle.tree.specs.Rules.{foundOf};

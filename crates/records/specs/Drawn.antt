@@ -1,9 +1,8 @@
 -- The records of the drawing in Records, with 3 rows: what the definitions give for them, by evaluation. Assumes nothing.
 use mathlib.Core.Path.{_≡_, refl}
-use mathlib.Core.List.{List, [], _∷_, map}
-use mathlib.Core.Option.{Option, none, some}
-use Prim.Native.Nat.{ℕ}
-use lib.ListN.{set, replicate}
+use mathlib.Core.List.{[], _∷_, map}
+use mathlib.Core.Option.{none, some}
+use lib.ListN.{replicate}
 use Rattle.basics.specs.Count.{sum, one, count, first}
 use Rattle.records.specs.declared.Tree.{Tree}
 use Rattle.records.specs.Records.{Table, treeOf, tableOf, ancestor, up, isUsed, nodesUsed, isChild, children, isSnapshot, snapshots, taken, used, isVersion, version}

@@ -1,7 +1,7 @@
 -- The lists that a delete leaves are those of Freed and Relabelled, and only they are. Assumes nothing.
-use mathlib.Core.Path.{_≡_, refl, sym, _∙_, ap, ap₂}
+use mathlib.Core.Path.{_≡_, refl, sym, _∙_, ap}
 use mathlib.Core.Logic.{by-cases}
-use mathlib.Core.Bool.{Bool, true, false, cond}
+use mathlib.Core.Bool.{cond}
 use mathlib.Core.List.{List, [], _∷_}
 use Prim.Native.Nat.{ℕ, zero, suc, _+_, _≤_, _<_}
 use native.Mathlib.Decide.{ℕ-discrete}
@@ -10,9 +10,7 @@ use lib.Dec.{eqb}
 use lib.ListN.{length, set, length-set}
 use lib.Seq.{ext-getD, getD-set-same, getD-set-other}
 use Rattle.basics.specs.Decide.{at}
-use Rattle.records.specs.declared.Tree.{Tree}
-use Rattle.records.specs.Records.{Table, taken}
-use Rattle.removal.specs.Removal.{lonely, Freed, Relabelled, mapAt, freedList, relabelled}
+use Rattle.removal.specs.Removal.{Relabelled, mapAt, relabelled}
 
 pub map-size : (f : ℕ → ℕ → ℕ) (i : ℕ) (xs : List ℕ) → length (mapAt f i xs) ≡ length xs
 map-size f i [] = refl

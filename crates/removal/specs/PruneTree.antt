@@ -1,14 +1,13 @@
 -- A tree without one of its ghosts, whose children hang under its parent: what its nodes and versions are, and rules 2 to 5. Assumes nothing.
 use mathlib.Core.Path.{_≡_, refl, sym, _∙_, ap}
 use mathlib.Core.Logic.{_≢_, _⊎_, inl, inr, by-cases}
-use mathlib.Core.Bool.{Bool, false, not}
-use Prim.Native.Nat.{ℕ, zero, suc, _<_}
+use mathlib.Core.Bool.{false, not}
+use Prim.Native.Nat.{ℕ}
 use native.Mathlib.Decide.{ℕ-discrete}
 use native.Mathlib.Omega.{arith}
 use lib.Dec.{eqb}
 use borrow.Author.Tests.{eqb-true}
 use Rattle.basics.specs.Decide.{at, and-no}
-use Rattle.basics.specs.Count.{first}
 use Rattle.basics.specs.CountLaws.{count-cong, first-same}
 use Rattle.records.specs.declared.Tree.{Tree}
 use Rattle.records.specs.Records.{InUse, Alive, Ghost, Snapshot, up, Child, Reaches, isSnapshot, snapshots, isVersion, version}

@@ -1,5 +1,5 @@
 -- From the calls' promises on records to those on bytes. Assumes nothing.
-use mathlib.Core.Path.{_≡_, refl, sym, _∙_, ap, ap₂}
+use mathlib.Core.Path.{_≡_, refl, sym, _∙_, ap}
 use mathlib.Core.Logic.{_≢_}
 use mathlib.Core.List.{List}
 use mathlib.Core.Option.{Option, none, some}
@@ -9,14 +9,12 @@ use lib.ListN.{length, take}
 use lib.Seq.{length-take-le}
 use Rattle.measures.specs.declared.Size.{Size}
 use Rattle.records.specs.declared.Tree.{Tree}
-use Rattle.records.specs.Records.{Records, recordsOf}
-use Rattle.records.specs.Sound.{Sound}
-use Rattle.model.specs.Call.{Refusal, bad-size, bad-length, bad-row, zero-tag, origin-tag, unsound, unknown-tag, tag-alive, snapshots-full, places-full, refused, number, numberOf, done}
-use Rattle.model.specs.Model.{unless}
+use Rattle.records.specs.Records.{recordsOf}
+use Rattle.model.specs.Call.{Refusal, bad-size, bad-length, bad-row, zero-tag, origin-tag, unsound, unknown-tag, tag-alive, snapshots-full, places-full, number}
 use Rattle.soundness.specs.Judged.{Judged, Leaves}
 use Rattle.queries.specs.Queries.{CountEnds}
 use Rattle.snapshots.specs.Taking.{SnapshotEnds}
-use Rattle.writing.specs.Writing.{Held, held, WriteEnds}
+use Rattle.writing.specs.Writing.{Held, WriteEnds}
 use Rattle.deleting.specs.Deleting.{Left, left, DeleteEnds}
 use Rattle.layout.specs.Layout.{entries, sizeAt, stored, loaded, Fits}
 use Rattle.rowstore.specs.Host.{Host, HostEnds, Ready, withTree, withLeft, heldAs, HostSnapshots, HostDeletes, HostWrites, HostCounts}

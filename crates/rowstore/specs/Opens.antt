@@ -1,9 +1,9 @@
 -- An opening on bytes: the records of the opened store are stored. Assumes nothing.
-use mathlib.Core.Path.{_≡_, refl, sym, _∙_, ap, ap₂}
+use mathlib.Core.Path.{_≡_, refl, _∙_, ap₂}
 use mathlib.Core.Logic.{_≢_}
 use mathlib.Core.Bool.{Bool, true, false, not}
 use mathlib.Core.List.{List, [], _∷_}
-use mathlib.Core.Option.{none, some}
+use mathlib.Core.Option.{none}
 use Prim.Native.Nat.{ℕ, _*_}
 use lib.Dec.{eqb}
 use borrow.Author.Tests.{eq-eqb, ne-eqb}
@@ -17,10 +17,10 @@ use Rattle.model.specs.Call.{bad-size, bad-length}
 use Rattle.model.specs.Model.{Tests, refusal, inMeasure}
 use Rattle.model.specs.Model as model
 use Rattle.model.specs.Tests.{refusal-here, refusal-next, refusal-none, in-measure, measure-in}
-use Rattle.soundness.specs.Judged.{Leaves, leaves-refused, leaves-done}
+use Rattle.soundness.specs.Judged.{leaves-refused, leaves-done}
 use Rattle.opening.specs.Opening.{firstTree, openVerdict, Opening}
 use Rattle.layout.specs.Layout.{entries, recordsSize, stored}
-use Rattle.rowstore.specs.Host.{HostOpens, Openable, openTests, firstRecords}
+use Rattle.rowstore.specs.Host.{HostOpens, Openable, openTests}
 
 module _ (z : Size) (b places : List ℕ) where
   lengths : Tests

@@ -1,10 +1,10 @@
 -- A row that is read has B bytes, and goes into the bytes lent for it. Assumes nothing.
-use mathlib.Core.Path.{_≡_, refl, sym, _∙_, ap}
+use mathlib.Core.Path.{_≡_, refl, sym, _∙_}
 use mathlib.Core.Logic.{_≢_, by-cases}
 use mathlib.Core.Bool.{Bool, true, false, not, cond}
 use mathlib.Core.List.{List, [], _∷_}
 use mathlib.Core.Option.{Option, none, some}
-use Prim.Native.Nat.{ℕ, _*_, _≤_, _<_}
+use Prim.Native.Nat.{ℕ, _*_, _<_}
 use native.Mathlib.Decide.{ℕ-discrete}
 use native.Mathlib.Omega.{arith}
 use lib.Dec.{eqb, leb}
@@ -12,12 +12,12 @@ use borrow.Author.Tests.{eqb-true, leb-false, eq-eqb, ne-eqb}
 use lib.ListN.{length}
 use Rattle.basics.specs.Decide.{not-yes, not-no}
 use Rattle.measures.specs.declared.Size.{Size}
-use Rattle.measures.specs.Measures.{bytesAt, beginsAt}
+use Rattle.measures.specs.Measures.{bytesAt}
 use Rattle.records.specs.declared.Tree.{Tree}
 use Rattle.records.specs.Records.{Records, recordsOf, version}
 use Rattle.records.specs.Reading.{lives, tagPlace, isFound, placeBy}
 use Rattle.records.specs.Sound.{Sound}
-use Rattle.model.specs.Call.{Refusal, bad-length, bad-row, unknown-tag, unsound, done, refused, row, number, numberOf, rowOf}
+use Rattle.model.specs.Call.{Refusal, bad-length, bad-row, unknown-tag, unsound, done, refused, row, numberOf, rowOf}
 use Rattle.model.specs.Model.{refusal, unless}
 use Rattle.model.specs.Tests.{refusal-passed}
 use Rattle.soundness.specs.Judged.{Leaves}
@@ -26,7 +26,7 @@ use Rattle.queries.specs.Queries.{Hands, ReadEnds, readAnswer, rowOfTag}
 use Rattle.queries.specs.Queries as queries
 use Rattle.queries.specs.Laws.{version-used, read-inside}
 use Rattle.layout.specs.Layout.{sizeAt, loaded, Fits}
-use Rattle.rowstore.specs.Host.{Host, HostReads, readTests, copyNumber, Copied}
+use Rattle.rowstore.specs.Host.{HostReads, readTests, copyNumber, Copied}
 use Rattle.rowstore.specs.Laws.{number-some, host-judged, as-loaded}
 
 -- the tests of a read, by what each of them says: places, row, tag; and with the length of the bytes lent for the row

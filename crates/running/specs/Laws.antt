@@ -1,20 +1,20 @@
 -- The lines of a stream, one command at a time. Assumes nothing.
 use mathlib.Core.Path.{_≡_, refl, sym, _∙_, ap, ap₂}
-use mathlib.Core.Bool.{Bool, true, false, cond}
-use mathlib.Core.List.{List, [], _∷_, _++_, append-assoc, append-nil}
+use mathlib.Core.Bool.{false}
+use mathlib.Core.List.{List, [], _++_, append-assoc, append-nil}
 use mathlib.Core.Option.{Option, none, some}
-use Prim.Native.Nat.{ℕ, zero, suc, _+_, _-_, _*_, _≤_, _<_}
+use Prim.Native.Nat.{ℕ, zero, suc, _+_, _-_, _≤_, _<_}
 use native.Mathlib.Omega.{arith}
 use lib.Dec.{eqb}
 use borrow.Author.Tests.{le-leb}
 use lib.ListN.{length, take, drop}
 use Rattle.measures.specs.declared.Size.{Size}
 use Rattle.records.specs.Records.{Records}
-use Rattle.model.specs.Call.{Call, snapshot, read, write, delete, count, Refusal, bad-size, bad-length, bad-row, zero-tag, origin-tag, unsound, unknown-tag, tag-alive, snapshots-full, places-full, Answer, done, row, counts, refused, number, numberOf}
+use Rattle.model.specs.Call.{Call, snapshot, read, write, delete, count, Refusal, bad-size, bad-length, bad-row, zero-tag, origin-tag, unsound, unknown-tag, tag-alive, snapshots-full, places-full, done, row, counts, refused, number, numberOf}
 use Rattle.model.specs.Model.{Model, answers, final, answer, after, accepted, verdict, unless}
 use Rattle.theorem.specs.Trace.{Handed, handedOf}
 use Rattle.theorem.specs.Theorem.{one-call}
-use Rattle.text.specs.Text.{line, dash, hex, pairText, shown, answerLine}
+use Rattle.text.specs.Text.{line, dash, shown, answerLine}
 use Rattle.laying.specs.Laid.{Lays}
 use Rattle.laying.specs.Laws.{lays-as}
 use Rattle.text.specs.Laws.{line-most}

@@ -1,14 +1,13 @@
 -- The loop over a stream: what was laid is the text up to p, and what is left of the text is that from p on. Assumes nothing.
 use mathlib.Core.Path.{_≡_, refl, sym, _∙_, ap}
 use mathlib.Core.Logic.{_≢_}
-use mathlib.Core.List.{List, [], _∷_, _++_, append-assoc, append-nil}
+use mathlib.Core.List.{List, [], _++_, append-assoc, append-nil}
 use Prim.Native.Nat.{ℕ, zero, suc, _+_, _*_, _≤_, _<_}
 use native.Mathlib.Nat.{mul-suc, mul-le-mul-left}
 use native.Mathlib.Omega.{arith}
 use borrow.Author.Tests.{eq-eqb, ne-eqb, lt-ltb, le-ltb}
 use lib.ListN.{length}
 use Rattle.basics.specs.Decide.{not-yes, not-no}
-use Rattle.measures.specs.Measures.{Within}
 use Rattle.records.specs.declared.Tree.{Tree}
 use Rattle.records.specs.Records.{Records, recordsOf}
 use Rattle.records.specs.Sound.{Sound}
@@ -19,7 +18,7 @@ use Rattle.steps.specs.Calls.{Runs}
 use Rattle.laying.specs.Laid.{Lays}
 use Rattle.laying.specs.Laws.{lays-none, lays-then, lays-as}
 use Rattle.commands.specs.Format.{callsFrom}
-use Rattle.running.specs.Output.{textFrom, output, lastModel, lineRoom, Served, Ran-one, Ran-all, runNumber, Kept, StreamEnds}
+use Rattle.running.specs.Output.{textFrom, output, lastModel, lineRoom, Ran-one, Ran-all, runNumber, Kept, StreamEnds}
 use Rattle.running.specs.Laws.{text-over, final-over}
 
 module _ (z : Records) (places s out : List ℕ) where

@@ -18,7 +18,7 @@ use Rattle.text.specs.Text.{line, dash, hex, pairText, answerLine}
 use Rattle.laying.specs.Laid.{Lays}
 use Rattle.commands.specs.declared.Command.{Command}
 use Rattle.commands.specs.declared.Command.the-variants.{Over, Unknown, Cut, Snapshot, Read, Write, Delete, Count}
-use Rattle.commands.specs.Format.{callsFrom, endFrom, calls, ending}
+use Rattle.commands.specs.Format.{callsFrom, endFrom, calls}
 
 -- the lines of a list of answers, numbered from k on
 unfoldable pub numbered : ℕ → List Answer → List ℕ

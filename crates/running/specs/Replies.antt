@@ -1,20 +1,19 @@
 -- A row that is read is short; then each call with its line, whose number is the one that the call answered. Assumes nothing.
-use mathlib.Core.Path.{_≡_, refl, sym, _∙_, ap}
+use mathlib.Core.Path.{_≡_, sym, ap}
 use mathlib.Core.Logic.{_≢_, by-cases}
-use mathlib.Core.Bool.{Bool, true, false, cond}
-use mathlib.Core.List.{List, [], _∷_}
+use mathlib.Core.List.{List, []}
 use mathlib.Core.Option.{Option, none, some}
-use Prim.Native.Nat.{ℕ, _+_, _*_, _≤_}
+use Prim.Native.Nat.{ℕ, _≤_}
 use native.Mathlib.Decide.{decLe}
 use native.Mathlib.Omega.{arith}
 use borrow.Author.Tests.{eq-eqb, ne-eqb}
-use lib.ListN.{length, take, drop, length-take}
+use lib.ListN.{length, drop, length-take}
 use Rattle.measures.specs.Measures.{bytesAt, beginsAt}
 use Rattle.records.specs.declared.Tree.{Tree}
 use Rattle.records.specs.Records.{Records, recordsOf}
 use Rattle.records.specs.Reading.{tagPlace}
 use Rattle.records.specs.Sound.{Sound}
-use Rattle.model.specs.Call.{Call, snapshot, read, write, delete, count, Refusal, row, refused, rowOf}
+use Rattle.model.specs.Call.{snapshot, read, write, delete, count, Refusal, row, refused, rowOf}
 use Rattle.model.specs.Model.{refusal, unless}
 use Rattle.queries.specs.Queries.{CountEnds, ReadEnds, readTests, readAnswer, rowOfTag}
 use Rattle.snapshots.specs.Taking.{SnapshotEnds}

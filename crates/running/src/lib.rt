@@ -1,10 +1,10 @@
 // Runs a whole stream of commands on a store, and lays a line of text for each.
 ghost use mathlib.Core.Path.{_≡_};
-ghost use Prim.Native.Nat.{ℕ, _+_, _*_, _≤_, _<_};
+ghost use Prim.Native.Nat.{_+_, _*_, _≤_, _<_};
 ghost use lib.ListN.{length};
 ghost use Rattle.records.specs.Records.{recordsOf};
 ghost use Rattle.model.specs.Call.{snapshot, read, write, delete, count};
-ghost use Rattle.running.specs.Output.{Replied, Replies, lineRoom, Ran-one, Ran-all, StreamEnds};
+ghost use Rattle.running.specs.Output.{Replied, Replies, lineRoom, Ran-one, StreamEnds};
 ghost use Rattle.running.specs.Loop.{Through};
 use commands::Command;
 use measures::Row;

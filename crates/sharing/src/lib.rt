@@ -1,6 +1,5 @@
 // Is a row shared, and is there a free place?
 ghost use mathlib.Core.Path.{_≡_};
-ghost use lib.ListN.{length};
 ghost use Rattle.basics.specs.Decide.{Decides};
 ghost use Rattle.records.specs.Records.{treeOf, tableOf};
 ghost use Rattle.tree.specs.Rules.{foundOf};

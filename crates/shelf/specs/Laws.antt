@@ -1,5 +1,5 @@
 -- The program's store is opened, and so every answer is that of the opened model. Assumes nothing.
-use mathlib.Core.Path.{_≡_, refl, sym, _∙_}
+use mathlib.Core.Path.{_≡_, _∙_}
 use mathlib.Core.List.{List}
 use mathlib.Core.Option.{none}
 use Prim.Native.Nat.{ℕ, _*_, _≤_, _<_}
@@ -13,8 +13,7 @@ use Rattle.opening.specs.Opening.{openVerdict, Opening}
 use Rattle.steps.specs.Begins.{open-call}
 use Rattle.text.specs.Text.{line, dash}
 use Rattle.laying.specs.Laid.{Lays}
-use Rattle.laying.specs.Laws.{lays-as}
-use Rattle.running.specs.Output.{lineRoom, runNumber, StreamEnds}
+use Rattle.running.specs.Output.{runNumber, StreamEnds}
 use Rattle.shelf.specs.Printed.{programSize, served, printed}
 
 pub printed-long : (s : List ℕ) {out out′ : List ℕ} {end : ℕ} → 4096 < length s → Lays out 0 (line 0 8 dash) out′ end → Lays out 0 (printed s) out′ end

@@ -1,28 +1,24 @@
 -- The ways out of snapshot, one for each test; that a node is always found; and what an accepted snapshot does. Assumes nothing.
-use mathlib.Core.Path.{_≡_, refl, sym, _∙_, ap}
-use mathlib.Core.Logic.{_≢_, by-cases}
-use mathlib.Core.Bool.{Bool, true, false, not, cond}
-use mathlib.Core.List.{List, [], _∷_}
-use mathlib.Core.Option.{Option, none, some}
-use Prim.Native.Nat.{ℕ, _+_, _*_, _≤_, _<_}
-use native.Mathlib.Decide.{ℕ-discrete, decLt}
+use mathlib.Core.Path.{_≡_, _∙_}
+use mathlib.Core.Logic.{_≢_}
+use mathlib.Core.Bool.{not}
+use mathlib.Core.List.{[], _∷_}
+use mathlib.Core.Option.{none, some}
+use Prim.Native.Nat.{ℕ, _≤_, _<_}
 use native.Mathlib.Omega.{arith}
-use lib.Dec.{eqb, leb}
+use lib.Dec.{leb}
 use borrow.Author.Tests.{eq-eqb, ne-eqb, le-leb, lt-leb}
-use Rattle.basics.specs.Decide.{at, not-yes, not-no}
 use Rattle.records.specs.declared.Tree.{Tree}
-use Rattle.records.specs.Records.{Records, Alive, snapshots, nodesUsed, version}
-use Rattle.records.specs.Reading.{isFound, lives}
+use Rattle.records.specs.Records.{Records, snapshots, nodesUsed, version}
+use Rattle.records.specs.Reading.{lives}
 use Rattle.records.specs.Sound.{Sound}
-use Rattle.model.specs.Call.{Refusal, zero-tag, unknown-tag, tag-alive, snapshots-full}
+use Rattle.model.specs.Call.{zero-tag, unknown-tag, tag-alive, snapshots-full}
 use Rattle.model.specs.Model.{Tests, refusal}
 use Rattle.model.specs.Tests.{refusal-here, refusal-next, refusal-none}
-use Rattle.tree.specs.Nodes.{version-alive}
-use Rattle.bound.specs.Bound.{node-bound, node-room}
-use Rattle.edits.specs.Edits.{grown, hung, withTree, Whole, EmptyNode, Copied}
-use Rattle.edits.specs.Snapshots.{copy-snapshot, copy-first, copy-origin}
-use Rattle.nodes.specs.Nodes.{emptyNode, firstChild, empty-of, child-some, child-none}
-use Rattle.snapshots.specs.Taking.{snapshotTests, snapshotVerdict, hungBy, grownBy, treeAt, treeBy, snapshotTree}
+use Rattle.bound.specs.Bound.{node-room}
+use Rattle.edits.specs.Edits.{grown, hung}
+use Rattle.nodes.specs.Nodes.{emptyNode, firstChild}
+use Rattle.snapshots.specs.Taking.{snapshotTests, snapshotVerdict, treeAt, snapshotTree}
 
 module _ (z : Records) (source new : ℕ) where
   fullTest : Tests

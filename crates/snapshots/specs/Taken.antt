@@ -2,7 +2,6 @@
 use mathlib.Core.Path.{_≡_, refl, sym, _∙_, ap}
 use mathlib.Core.Logic.{_≢_, by-cases}
 use mathlib.Core.Bool.{true, false, not}
-use mathlib.Core.List.{[], _∷_}
 use mathlib.Core.Option.{Option, none, some}
 use Prim.Native.Nat.{ℕ, _<_}
 use native.Mathlib.Decide.{ℕ-discrete}
@@ -15,7 +14,6 @@ use Rattle.records.specs.Reading.{lives}
 use Rattle.records.specs.Sound.{Sound}
 use Rattle.model.specs.Call.{zero-tag, unknown-tag, tag-alive, snapshots-full}
 use Rattle.model.specs.Tests.{refusal-passed}
-use Rattle.tree.specs.Nodes.{version-alive}
 use Rattle.edits.specs.Edits.{withTree, Whole, Copied}
 use Rattle.edits.specs.Solve.{lives-node}
 use Rattle.edits.specs.Snapshots.{copy-snapshot, copy-first, copy-origin}

@@ -1,6 +1,6 @@
 // Taking a snapshot: a new living node, between node 0 and its former child for the origin, under its source for any other. No place is touched.
 ghost use mathlib.Core.Path.{_≡_};
-ghost use Prim.Native.Nat.{ℕ, _<_};
+ghost use Prim.Native.Nat.{_<_};
 ghost use Rattle.records.specs.Records.{recordsOf, nodesUsed};
 ghost use Rattle.snapshots.specs.Taking.{treeAt, SnapshotEnds};
 use measures::Size;

@@ -1,6 +1,5 @@
 -- The seven rules in the three parts that are checked: the measures, the tree, the table. Assumes nothing.
-use mathlib.Core.Path.{_≡_, sym, _∙_}
-use Prim.Native.Nat.{_≤_}
+use mathlib.Core.Path.{sym, _∙_}
 use Rattle.records.specs.Records.{Records, table}
 use Rattle.records.specs.Sound.{Measured, Linked, Sound}
 use Rattle.tree.specs.Rules.{TreeSound}

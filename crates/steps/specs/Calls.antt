@@ -1,25 +1,24 @@
 -- The step theorems, from the very promises of the functions that run: where a store agrees with the reference model before a call, what the
 -- call answers is what the model answers, and what it leaves agrees with the model after the call. Assumes nothing.
-use mathlib.Core.Path.{_≡_, refl, sym, _∙_, ap}
+use mathlib.Core.Path.{_≡_, _∙_, ap}
 use mathlib.Core.List.{List}
-use mathlib.Core.Option.{Option}
 use Prim.Native.Nat.{ℕ}
 use Rattle.records.specs.declared.Tree.{Tree}
-use Rattle.records.specs.Records.{Records, recordsOf}
-use Rattle.model.specs.Call.{Call, snapshot, read, write, delete, count, Refusal, done, refused, Answer, numberOf, rowOf, usedOf, snapshotsOf}
-use Rattle.model.specs.Model.{Model, answer, after, unless}
+use Rattle.records.specs.Records.{Records}
+use Rattle.model.specs.Call.{snapshot, read, write, delete, count, numberOf, rowOf, usedOf, snapshotsOf}
+use Rattle.model.specs.Model.{Model, answer, after}
 use Rattle.agreement.specs.Steps.{step-agree}
 use Rattle.soundness.specs.Judged.{Leaves}
 use Rattle.edits.specs.Edits.{withTree, Whole}
 use Rattle.queries.specs.Queries.{Hands, Gives, countAnswer, readAnswer}
-use Rattle.view.specs.View.{view, Store, Agrees}
+use Rattle.view.specs.View.{Store, Agrees}
 use Rattle.view.specs.Queried.{read-step, count-step}
 use Rattle.snapshots.specs.Taking.{snapshotVerdict, snapshotTree}
 use Rattle.writing.specs.Writing.{Held, held, writeVerdict, written}
-use Rattle.steps.specs.Snapshotted.{snapshotLeft, snapshot-step, snapshot-store, snapshot-whole}
+use Rattle.steps.specs.Snapshotted.{snapshot-step, snapshot-store, snapshot-whole}
 use Rattle.deleting.specs.Deleting.{Left, left, deleteVerdict, deleted}
-use Rattle.steps.specs.Removed.{deleteLeft, leftRecords, delete-step, delete-store, delete-whole}
-use Rattle.steps.specs.Wrote.{writeLeft, heldRecords, write-step, write-store, write-whole}
+use Rattle.steps.specs.Removed.{leftRecords, delete-step, delete-store, delete-whole}
+use Rattle.steps.specs.Wrote.{heldRecords, write-step, write-store, write-whole}
 
 -- a store that runs: sound, with all its bytes, its arrays whole, and in agreement with the model
 pub record Runs (z : Records) (places : List ℕ) (m : Model) : Type 0 where

@@ -1,29 +1,28 @@
 -- A snapshot is a step of the place map: what `snapshots::snapshot` answers and leaves of a sound store is what the reference model's tests say. Assumes nothing.
-use mathlib.Core.Path.{_≡_, refl, sym, _∙_, ap, ap₂}
-use mathlib.Core.Logic.{_≢_, by-cases}
+use mathlib.Core.Path.{_≡_, refl, sym, _∙_, ap}
+use mathlib.Core.Logic.{by-cases}
 use mathlib.Core.Bool.{Bool, true, false, cond, _||_}
-use mathlib.Core.List.{List, [], _∷_}
+use mathlib.Core.List.{List, _∷_}
 use mathlib.Core.Option.{Option, none, some}
 use Prim.Native.Nat.{ℕ}
 use native.Mathlib.Decide.{ℕ-discrete}
-use lib.Dec.{eqb, leb}
+use lib.Dec.{eqb}
 use lib.ListN.{length-set}
 use borrow.Author.Tests.{eq-eqb, ne-eqb}
 use Rattle.measures.specs.Measures.{bytesAt}
 use Rattle.records.specs.declared.Tree.{Tree}
-use Rattle.records.specs.Records.{Records, snapshots, version}
+use Rattle.records.specs.Records.{Records, version}
 use Rattle.records.specs.Reading.{lives, tagPlace}
-use Rattle.records.specs.Sound.{Sound}
-use Rattle.model.specs.Call.{snapshot, Refusal, done, refused, zero-tag, unknown-tag, tag-alive, snapshots-full}
-use Rattle.model.specs.Model.{Cell, Tests, alive, snapshotsAlive, refusal, tests, accepted, unless, adopt}
-use Rattle.agreement.specs.Agree.{Map, Live, Alike, Effect, mapVerdict, mapAnswer, Step}
+use Rattle.model.specs.Call.{snapshot, Refusal, done, refused}
+use Rattle.model.specs.Model.{alive, tests, accepted, unless, adopt}
+use Rattle.agreement.specs.Agree.{Alike, Effect, mapVerdict, mapAnswer, Step}
 use Rattle.agreement.specs.Living.{alive-cons}
-use Rattle.edits.specs.Edits.{withTree, Whole, Copied, grown, hung}
+use Rattle.edits.specs.Edits.{withTree, Whole, Copied, grown}
 use Rattle.view.specs.View.{view, Store}
 use Rattle.view.specs.Viewed.{view-alive, view-snapshots}
 use Rattle.nodes.specs.Nodes.{emptyNode, firstChild}
 use Rattle.snapshots.specs.Taking.{snapshotTests, snapshotVerdict, hungBy, grownBy, treeAt, treeBy, snapshotTree}
-use Rattle.snapshots.specs.Taken.{Allowed, snapshot-allowed, snapshot-copied}
+use Rattle.snapshots.specs.Taken.{snapshot-allowed, snapshot-copied}
 
 -- the tree that the call leaves
 abbrev pub snapshotLeft : Records → ℕ → ℕ → Tree

@@ -1,6 +1,6 @@
 // The table's rules, document 01's sixth and seventh, in one pass each, with a mark for each node and row that an entry names.
 ghost use mathlib.Core.Path.{_≡_};
-ghost use Prim.Native.Nat.{ℕ, _≤_, _<_};
+ghost use Prim.Native.Nat.{_<_};
 ghost use lib.ListN.{length};
 ghost use Rattle.basics.specs.Decide.{Decides};
 ghost use Rattle.records.specs.Records.{treeOf, tableOf};

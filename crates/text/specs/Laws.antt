@@ -1,13 +1,13 @@
 -- How long the parts of a line are, and each laid from its parts. Assumes nothing.
-use mathlib.Core.Path.{_≡_, refl, sym, _∙_, ap}
+use mathlib.Core.Path.{_≡_, refl, _∙_, ap}
 use mathlib.Core.Bool.{Bool, true, false, cond}
-use mathlib.Core.List.{List, [], _∷_, _++_, append-assoc, append-nil}
-use Prim.Native.Nat.{ℕ, zero, suc, _+_, _*_, _/_, _%_, _≤_, _<_}
+use mathlib.Core.List.{List, [], _∷_, _++_}
+use Prim.Native.Nat.{ℕ, suc, _+_, _*_, _/_, _%_, _≤_, _<_}
 use native.Mathlib.Omega.{arith}
 use lib.Dec.{ltb}
 use borrow.Author.Tests.{lt-ltb, le-ltb}
-use lib.ListN.{length, take, drop, set, length-append, length-drop, length-set, take-append-drop}
-use lib.Seq.{length-take-le, take-at, drop-at, drop-drop, set-split, take-suc, take-all}
+use lib.ListN.{length, take, length-append}
+use lib.Seq.{length-take-le, take-suc, take-all}
 use Rattle.basics.specs.Decide.{at}
 use Rattle.text.specs.Text.{digit, place, decimal, hex, head, line, pairText, space, newline}
 use Rattle.laying.specs.Laid.{Lays}

@@ -1,6 +1,6 @@
 // Lines of text, laid into lent bytes from a position on. Each function returns the position behind what it laid.
 ghost use mathlib.Core.Path.{_≡_};
-ghost use Prim.Native.Nat.{ℕ, _+_, _*_, _/_, _%_, _≤_, _<_};
+ghost use Prim.Native.Nat.{_+_, _*_, _/_, _%_, _≤_, _<_};
 ghost use lib.ListN.{length};
 ghost use Rattle.text.specs.Text.{digit, place, decimal, hex, head, line, dash, pairText};
 ghost use Rattle.laying.specs.Laid.{Lays};

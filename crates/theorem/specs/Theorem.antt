@@ -1,14 +1,12 @@
 -- THE THEOREM (the client's third demand): any list of calls on a store answers as the reference model, and leaves what the model has.
 -- It is one statement over the whole list, for a store fresh from its opening and for sound records from elsewhere alike. Assumes nothing.
 use mathlib.Core.Path.{_≡_, refl, sym, _∙_, ap, ap₂}
-use mathlib.Core.Bool.{true}
 use mathlib.Core.List.{List, [], _∷_, map}
 use mathlib.Core.Option.{Option, none, some}
-use Prim.Native.Nat.{ℕ, _<_}
+use Prim.Native.Nat.{ℕ}
 use Rattle.measures.specs.declared.Size.{Size}
 use Rattle.records.specs.declared.Tree.{Tree}
 use Rattle.records.specs.Records.{Records, recordsOf}
-use Rattle.records.specs.Reading.{lives, tagPlace}
 use Rattle.model.specs.Call.{Call, snapshot, read, write, delete, count, Refusal, Answer, done, row, refused, rowOf, usedOf, snapshotsOf}
 use Rattle.model.specs.Model.{Model, opened, verdict, answer, after, answers, final, unless, accepted}
 use Rattle.agreement.specs.Steps.{used-agree}

@@ -3,7 +3,6 @@ use mathlib.Core.Path.{_≡_}
 use mathlib.Core.Bool.{true}
 use mathlib.Core.List.{List, [], _∷_}
 use Prim.Native.Nat.{ℕ, _<_}
-use Rattle.measures.specs.declared.Size.{Size}
 use Rattle.records.specs.declared.Tree.{Tree}
 use Rattle.records.specs.Records.{Records, recordsOf, table, used}
 use Rattle.records.specs.Reading.{lives}

@@ -1,17 +1,15 @@
 -- Laws of going up: induction from node 0, and no path is longer than the nodes it can pass. Assumes nothing.
 use mathlib.Core.Path.{_≡_, refl, sym, _∙_, ap}
 use mathlib.Core.Logic.{_≢_, by-cases}
-use mathlib.Core.Bool.{true}
 use mathlib.Core.Option.{Option, none, some}
 use Prim.Native.Nat.{ℕ, zero, suc, _+_, _-_, _≤_, _<_}
 use native.Mathlib.Decide.{ℕ-discrete, decLt}
 use native.Mathlib.Numerals.{add-one}
 use native.Mathlib.Omega.{arith}
 use lib.Dec.{eqb}
-use borrow.Author.Tests.{eq-eqb, eqb-true, eqb-false}
-use mathlib.Core.Bool.{false≢true}
+use borrow.Author.Tests.{eqb-true, eqb-false}
 use Rattle.basics.specs.Count.{first}
-use Rattle.basics.specs.CountLaws.{First, first-some, first-none, distinct-below}
+use Rattle.basics.specs.CountLaws.{first-some, first-none, distinct-below}
 use Rattle.records.specs.Records.{ancestor, Reaches}
 
 module _ (f : ℕ → ℕ) where

@@ -1,18 +1,17 @@
 -- Laws of nodes: the tests of Records answer the questions beside them; children by their number. Assumes nothing.
-use mathlib.Core.Path.{_≡_, refl, sym, _∙_, ap}
+use mathlib.Core.Path.{_≡_, refl, ap}
 use mathlib.Core.Logic.{_≢_, _↔_, by-cases}
-use mathlib.Core.Bool.{Bool, true, false, not, _&&_, false≢true}
-use mathlib.Core.Option.{Option, none, some}
-use Prim.Native.Nat.{ℕ, zero, suc, _+_, _≤_, _<_}
+use mathlib.Core.Bool.{Bool, true, false, not, _&&_}
+use mathlib.Core.Option.{some}
+use Prim.Native.Nat.{ℕ, _≤_, _<_}
 use native.Mathlib.Omega.{arith}
 use lib.Dec.{eqb}
-use borrow.Author.Tests.{eq-eqb, ne-eqb, eqb-true, eqb-false}
+use borrow.Author.Tests.{eq-eqb, ne-eqb, eqb-true}
 use Rattle.basics.specs.Decide.{at, and-yes, both, not-yes, not-of}
-use Rattle.basics.specs.Count.{count, first}
-use Rattle.basics.specs.CountLaws.{First, first-some, first-only, count-two, count-pair, count-one}
+use Rattle.basics.specs.CountLaws.{first-some, first-only, count-two, count-pair, count-one}
 use Rattle.records.specs.declared.Tree.{Tree}
-use Rattle.records.specs.Records.{InUse, Alive, Ghost, Snapshot, up, Child, isSnapshot, isUsed, isChild, children, isVersion, version}
-use Rattle.records.specs.Sound.{States, Tagged}
+use Rattle.records.specs.Records.{Alive, Snapshot, up, Child, isSnapshot, isUsed, isChild, children, isVersion, version}
+use Rattle.records.specs.Sound.{States}
 
 module _ (t : Tree) where
   pub used-yes : (n : ℕ) → at (t .state) n ≢ 0 → isUsed t n ≡ true

@@ -1,16 +1,14 @@
 -- The tree's rules one node at a time, as the check tests them, and the four together. Assumes nothing.
-use mathlib.Core.Path.{_≡_, refl, sym, _∙_, ap}
-use mathlib.Core.Logic.{_≢_, by-cases}
-use mathlib.Core.Bool.{Bool, true, false}
+use mathlib.Core.Path.{_≡_, refl}
+use mathlib.Core.Logic.{_≢_}
 use mathlib.Core.List.{List}
 use mathlib.Core.Option.{Option, none, some}
-use Prim.Native.Nat.{ℕ, _+_, _≤_, _<_}
-use native.Mathlib.Decide.{ℕ-discrete}
+use Prim.Native.Nat.{ℕ, _≤_, _<_}
 use native.Mathlib.Omega.{arith}
 use Rattle.basics.specs.Decide.{at}
 use Rattle.basics.specs.Count.{count}
 use Rattle.records.specs.declared.Tree.{Tree}
-use Rattle.records.specs.Records.{InUse, Ghost, Snapshot, up, Reaches, isChild, children, version}
+use Rattle.records.specs.Records.{InUse, Snapshot, up, isChild, version}
 use Rattle.records.specs.Sound.{States, Linked, Tagged, Branching}
 use Rattle.tree.specs.declared.Found.{Found}
 use Rattle.tree.specs.declared.Found.the-variants.{At, Missing}

@@ -1,6 +1,6 @@
 // The tree's own rules, document 01's second to fifth, and the living version of a tag.
 ghost use mathlib.Core.Path.{_≡_};
-ghost use Prim.Native.Nat.{ℕ, _<_};
+ghost use Prim.Native.Nat.{_<_};
 ghost use Rattle.basics.specs.Decide.{Decides};
 ghost use Rattle.records.specs.Records.{treeOf, up, Reaches, snapshots, version};
 ghost use Rattle.records.specs.Sound.{States, Linked, Tagged, Branching};

@@ -1,13 +1,13 @@
 -- What the parts of a write ask and give: a node that stands ready, room for it, places inside the buffer, and the ways out. Assumes nothing.
-use mathlib.Core.Path.{_≡_, refl, sym, _∙_, ap}
+use mathlib.Core.Path.{_≡_, refl, sym, _∙_}
 use mathlib.Core.Logic.{_≢_}
 use mathlib.Core.List.{List}
 use mathlib.Core.Option.{Option, none, some}
-use Prim.Native.Nat.{ℕ, _+_, _*_, _≤_, _<_}
+use Prim.Native.Nat.{ℕ, _+_, _≤_, _<_}
 use native.Mathlib.Omega.{arith}
 use lib.ListN.{length}
 use Rattle.records.specs.declared.Tree.{Tree}
-use Rattle.records.specs.Records.{Records, table, InUse, Alive, Child, nodesUsed}
+use Rattle.records.specs.Records.{Records, table, InUse, Child, nodesUsed}
 use Rattle.records.specs.Reading.{place}
 use Rattle.bound.specs.Bound.{node-bound-child}
 use Rattle.reading.specs.Lookup.{Looking}

@@ -1,5 +1,5 @@
 -- The ways out of a write: the last test, the effect by its cases, and the tests in a row. Assumes nothing.
-use mathlib.Core.Path.{_≡_, refl, sym, _∙_, ap}
+use mathlib.Core.Path.{_≡_, refl, _∙_, ap}
 use mathlib.Core.Logic.{_≢_}
 use mathlib.Core.Bool.{Bool, true, false, not, _&&_, false≢true}
 use mathlib.Core.List.{List, [], _∷_}
@@ -14,13 +14,13 @@ use Rattle.basics.specs.CountLaws.{count-most}
 use Rattle.records.specs.Records.{Table, Records, table, taken, used, version}
 use Rattle.records.specs.Reading.{lives}
 use Rattle.records.specs.Sound.{Sound}
-use Rattle.model.specs.Call.{Refusal, bad-length, bad-row, unknown-tag, places-full}
+use Rattle.model.specs.Call.{bad-length, bad-row, unknown-tag, places-full}
 use Rattle.model.specs.Model.{Tests, refusal}
 use Rattle.model.specs.Tests.{refusal-here, refusal-next, refusal-none}
 use Rattle.nodes.specs.Nodes.{firstChild}
 use Rattle.sharing.specs.Sharing.{freeEntry, sharedAt}
 use Rattle.sharing.specs.Laws.{full-used}
-use Rattle.writing.specs.Writing.{sharedBy, fullTest, writeTests, writeVerdict, inPlace, toFree, savingBy, sharedTo, writtenAt, writtenBy, written, Writable}
+use Rattle.writing.specs.Writing.{sharedBy, fullTest, writeTests, writeVerdict, inPlace, toFree, savingBy, writtenAt, written}
 
 used-most : (e : Table) → used e ≤ e .rows + length (e .node)
 unfolding used

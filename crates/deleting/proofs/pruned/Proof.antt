@@ -1,6 +1,6 @@
 -- `deleting::pruned` meets its contract. Assumes nothing.
 use borrow.Author.Needs.{needs}
-use mathlib.Core.Path.{_≡_, sym, _∙_}
+use mathlib.Core.Path.{sym, _∙_}
 use Rattle.deleting.specs.Laws.{leaf-tree, leaf-node, parent-tree, parent-node}
 use Rattle.nodes.specs.Nodes.{firstChild}
 use Rattle.tree.specs.Rules.{found-at, found-missing}

@@ -1,6 +1,5 @@
 -- `opening::open` meets its contract: each return cites the law of its test. Assumes nothing.
 use borrow.Author.Needs.{needs}
-use Prim.Native.Nat.{_*_, _≤_}
 use native.Mathlib.Nat.{mul-le-mul}
 use native.Mathlib.Omega.{arith}
 use Rattle.opening.specs.Laws.{opening-refused, opening-done, size-refused, places-refused, nodes-refused, rows-refused, accepted}

@@ -1,13 +1,13 @@
 -- `reading::used` meets its contract: the exceptions below i are counted. Assumes nothing.
 use borrow.Author.Needs.{needs}
-use Prim.Native.Nat.{ℕ, _+_, _≤_, _<_, _-_}
+use Prim.Native.Nat.{_+_, _≤_, _-_}
 use mathlib.Core.Path.{_≡_}
 use mathlib.Core.Logic.{⊎-elim}
 use native.Mathlib.Omega.{arith}
 use lib.ListN.{length}
 use Rattle.reading.specs.Lookup.{taken-yes, taken-no}
 use Rattle.records.specs.Records.{tableOf, taken, used}
-use Rattle.basics.specs.CountLaws.{count-none, count-most}
+use Rattle.basics.specs.CountLaws.{count-none}
 use Rattle.basics.specs.Count.{count}
 use Rattle.reading.proofs.used.Statement.{statement}
 use Rattle.reading.proofs.used.Tie as tie

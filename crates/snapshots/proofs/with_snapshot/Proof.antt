@@ -1,8 +1,6 @@
 -- `snapshots::with_snapshot` meets its contract. Assumes nothing.
 use borrow.Author.Needs.{needs}
-use mathlib.Core.Path.{_≡_, sym, _∙_, ap}
-use mathlib.Core.Option.{some}
-use native.Mathlib.Omega.{arith}
+use mathlib.Core.Path.{sym, _∙_}
 use Rattle.snapshots.specs.Laws.{tree-under, tree-first, tree-between}
 use Rattle.nodes.specs.Nodes.{firstChild, empty-of, child-some}
 use Rattle.edits.specs.Edits.{hung}

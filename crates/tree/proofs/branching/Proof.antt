@@ -5,7 +5,6 @@ use mathlib.Core.Path.{_≡_}
 use mathlib.Core.Logic.{⊎-elim}
 use native.Mathlib.Omega.{arith}
 use borrow.Author.Count.{below-more}
-use Rattle.records.specs.Records.{treeOf}
 use Rattle.tree.specs.Loops.{branch-all, branch-root, branch-ghost}
 use Rattle.basics.specs.Decide.{at}
 use Rattle.tree.proofs.branching.Statement.{statement}

@@ -1,6 +1,6 @@
 -- `tree::reaches` meets its contract: the climb either meets node 0 or is longer than any path to it. Assumes nothing.
 use borrow.Author.Needs.{needs}
-use Prim.Native.Nat.{ℕ, _≤_, _<_, _-_}
+use Prim.Native.Nat.{_-_}
 use mathlib.Core.Path.{_≡_, sym, _∙_}
 use native.Mathlib.Omega.{arith}
 use Rattle.records.specs.Records.{treeOf}

@@ -2,7 +2,6 @@
 use borrow.Author.Needs.{needs}
 use Prim.Native.Nat.{ℕ}
 use mathlib.Core.Path.{_≡_, sym, _∙_, ap}
-use mathlib.Core.Option.{some, none}
 use native.Mathlib.Omega.{arith}
 use Rattle.tree.specs.declared.Found.the-variants.{At}
 use Rattle.records.specs.Records.{treeOf, version}

@@ -1,13 +1,12 @@
 -- `tree::version` meets its contract: no node passed has the tag. Assumes nothing.
 use borrow.Author.Needs.{needs}
-use Prim.Native.Nat.{ℕ, _≤_, _<_, _-_}
-use mathlib.Core.Path.{_≡_, ap}
+use Prim.Native.Nat.{_≤_, _-_}
+use mathlib.Core.Path.{_≡_}
 use mathlib.Core.Logic.{⊎-elim}
 use mathlib.Core.Option.{none}
 use native.Mathlib.Omega.{arith}
 use Rattle.basics.specs.CountLaws.{first-start}
 use Rattle.tree.specs.Loops.{version-here, version-past}
-use Rattle.tree.specs.Rules.{foundOf}
 use Rattle.records.specs.Records.{treeOf, isVersion, version}
 use Rattle.basics.specs.Count.{first}
 use Rattle.tree.proofs.version.Statement.{statement}

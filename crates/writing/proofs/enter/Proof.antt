@@ -1,7 +1,6 @@
 -- `writing::enter` meets its contract. Assumes nothing.
 use borrow.Author.Needs.{needs}
-use mathlib.Core.Path.{refl, ap}
-use lib.ListN.{set}
+use mathlib.Core.Path.{refl}
 use Rattle.writing.proofs.enter.Statement.{statement}
 use Rattle.writing.proofs.enter.Tie as tie
 

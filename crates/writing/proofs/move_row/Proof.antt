@@ -1,10 +1,8 @@
 -- `writing::move_row` meets its contract. Assumes nothing.
 use borrow.Author.Needs.{needs}
-use mathlib.Core.Path.{_≡_, refl, sym, _∙_, ap}
-use lib.ListN.{set}
-use Rattle.writing.specs.Laws.{child-room, few-entries, narrow-row, row-entry, entry-few, inside-entry, ready-low, held-same}
+use mathlib.Core.Path.{_∙_}
+use Rattle.writing.specs.Laws.{child-room, narrow-row, row-entry, entry-few, inside-entry, ready-low, held-same}
 use Rattle.writing.specs.Writing.{toFree}
-use Rattle.placing.specs.Placing.{putAt}
 use Rattle.writing.proofs.move_row.Statement.{statement}
 use Rattle.writing.proofs.move_row.Tie as tie
 

@@ -1,10 +1,9 @@
 -- `writing::save_row` meets its contract: the old bytes are saved before the origin's place is written. Assumes nothing.
 use borrow.Author.Needs.{needs}
-use mathlib.Core.Path.{_≡_, refl, sym, _∙_, ap}
+use mathlib.Core.Path.{_≡_, refl, sym, _∙_}
 use mathlib.Core.Option.{some}
-use native.Mathlib.Omega.{arith}
 use Rattle.writing.specs.Laws.{narrow-row, row-entry, entry-few, inside-entry, inside-home, held-same}
-use Rattle.writing.specs.Writing.{saving, savingBy}
+use Rattle.writing.specs.Writing.{saving}
 use Rattle.nodes.specs.Nodes.{firstChild, child-some}
 use Rattle.tree.specs.Rules.{found-at, found-missing}
 use Rattle.writing.proofs.save_row.Statement.{statement}

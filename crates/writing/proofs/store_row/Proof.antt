@@ -1,9 +1,8 @@
 -- `writing::store_row` meets its contract. Assumes nothing.
 use borrow.Author.Needs.{needs}
-use mathlib.Core.Path.{_≡_, refl, sym, _∙_, ap}
+use mathlib.Core.Path.{_≡_, refl, sym, _∙_}
 use mathlib.Core.Bool.{true, false}
-use mathlib.Core.Option.{some, none}
-use native.Mathlib.Omega.{arith}
+use mathlib.Core.Option.{some}
 use Rattle.writing.specs.Ways.{unshared-passes, full-refused, free-passes, written-in-place, written-saving, written-to-free}
 use Rattle.writing.specs.Laws.{writable-at, sharing-of, looking-of, inside-place, held-same}
 use Rattle.writing.specs.Writing.{inPlace}
