@@ -8,7 +8,7 @@ out=target/example
 expected=example/expected.txt
 warnings=(-Wall -Wextra -Werror)
 # The header promises that a call needs less; in KiB.
-stack=256
+stack=320
 passed=0
 
 fail() {
