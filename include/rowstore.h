@@ -10,7 +10,7 @@
  * state and keeps no pointer once a call has returned. Stores are independent,
  * and calls on different stores may run at the same time. Calls on one store
  * may overlap in time only if all of them are reads and counts. A call needs
- * less than 320 KiB of stack, whatever the size of the store.
+ * less than 64 KiB of stack, whatever the size of the store.
  *
  * Pointers. No pointer may be NULL, even with length 0. The buffers of one call
  * must not overlap. A buffer needs no alignment.

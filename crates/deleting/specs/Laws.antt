@@ -7,6 +7,7 @@ use mathlib.Core.Option.{Option, none, some}
 use Prim.Native.Nat.{ℕ, _<_}
 use native.Mathlib.Omega.{arith}
 use lib.Dec.{eqb}
+use lib.ListN.{length}
 use borrow.Author.Tests.{eq-eqb, ne-eqb, eqb-true}
 use Rattle.basics.specs.Decide.{at, and-no}
 use Rattle.records.specs.declared.Tree.{Tree}
@@ -18,7 +19,7 @@ use Rattle.model.specs.Tests.{refusal-here, refusal-next, refusal-none}
 use Rattle.tree.specs.Nodes.{version-alive}
 use Rattle.nodes.specs.Nodes.{firstChild}
 use Rattle.removal.specs.Removal.{ghosted, emptied, spliced, relabelled}
-use Rattle.freeing.specs.Freeing.{Freeable}
+use Rattle.table.specs.Rules.{Marked, Judging}
 use Rattle.deleting.specs.Deleting.{left, prunedTree, prunedNode, prunedNode′, thin, settledTree, settledNode, deletedAt, deleted, deleteTests, deleteVerdict, Deletable}
 
 -- what a label becomes
@@ -79,14 +80,17 @@ module _ {z : Records} {v : ℕ} (d : Deletable z v) where
   pub used-node : InUse (z .tree) v
   used-node = (d .snapshot .1 .0, omega (arith, d .snapshot .1 .1))
 
-  pub freeable : Freeable (z .tree) (table z) v
-  freeable =
-      let m = d .sound .measured in
-      record {
-        fitting = record { halves = m .rows ∙ sym (m .nodes); few = m .within .rows .1; linked = d .sound .linked };
-        used = used-node;
-        excepting = d .sound .excepting;
-      }
+  -- what freeing asks
+  pub freeable : {marks : List ℕ} → Marked (table z) marks (length (z .node)) → InUse (z .tree) v × Judging (z .tree) (table z) marks
+  freeable h =
+      let m = d .sound .measured in (
+        used-node,
+        record {
+          fitting = record { halves = m .rows ∙ sym (m .nodes); few = m .within .rows .1; linked = d .sound .linked };
+          excepting = d .sound .excepting;
+          marked = h;
+        },
+      )
 
   -- the node that may be thin lies in the tree
   pub thin-low : prunedNode (ghosted (z .tree) v) v < 128

@@ -1,7 +1,9 @@
 // Deleting a snapshot: the places that only it reads are freed, wherever their entries stand; its node goes, or stays as a ghost for its children.
 ghost use mathlib.Core.Path.{_≡_};
 ghost use Prim.Native.Nat.{_<_};
-ghost use Rattle.records.specs.Records.{recordsOf};
+ghost use lib.ListN.{length};
+ghost use Rattle.records.specs.Records.{recordsOf, table};
+ghost use Rattle.table.specs.Rules.{Marked, Blank};
 ghost use Rattle.removal.specs.Removal.{ghosted, emptied, spliced, relabelled};
 ghost use Rattle.deleting.specs.Deleting.{left, prunedTree, prunedNode, settledTree, settledNode, deletedAt, Deletable, DeleteEnds};
 use measures::Size;
@@ -109,24 +111,41 @@ fn settled(tree: Tree, x: usize, node: &mut [u8]) -> Tree
     spliced(tree, x, w)
 }
 
-// The version at node v goes, and with it what only it read.
-fn remove(size: Size, tree: Tree, node: &mut [u8], row: &mut [u16], v: usize) -> Tree
-    requires { ⌜ Deletable (recordsOf size tree (now node) (now row)) v ⌝ }
+// The version at node v goes, and with it what only it read. The marks are those of the records' check.
+fn remove(size: Size, tree: Tree, node: &mut [u8], row: &mut [u16], marks: &[u8], v: usize) -> Tree
+    requires { ⌜ Deletable (recordsOf size tree (now node) (now row)) v × Marked (table (recordsOf size tree (now node) (now row))) (now marks) (length (now node)) ⌝ }
     ensures { λ t. ⌜ left t (now (node .exit)) (now (row .exit)) ≡ deletedAt (recordsOf size tree (now (node .entry)) (now (row .entry))) v ⌝ }
 {
     let rows = size.rows;
-    freeing::free_rows(&tree.state, &tree.tag, &tree.parent, rows, node, row, v);
+    freeing::free_alone(
+        &tree.state,
+        &tree.tag,
+        &tree.parent,
+        rows,
+        node,
+        row,
+        marks,
+        v,
+    );
     let stand = pruned(ghosted(tree, v), v);
     let next = stand.tree;
     let x = stand.node;
     settled(next, x, node)
 }
 
-// Refusals: 20, 5, 21. A refusal changes nothing.
-pub fn delete(size: Size, tree: Tree, node: &mut [u8], row: &mut [u16], tag: u16) -> Removed
+// The delete, with marks that are all 0.
+fn delete_marked(
+    size: Size,
+    tree: Tree,
+    node: &mut [u8],
+    row: &mut [u16],
+    marks: &mut [u8],
+    tag: u16,
+) -> Removed
+    requires { ⌜ Blank (size .rows) (now marks) ⌝ }
     ensures { λ w. ⌜ DeleteEnds (recordsOf size tree (now (node .entry)) (now (row .entry))) tag (w .answer) (left (w .tree) (now (node .exit)) (now (row .exit))) ⌝ }
 {
-    if !soundness::sound(size, tree, node, row) {
+    if !soundness::judged(size, tree, node, row, marks) {
         return Removed { answer: 20, tree };
     }
     if tag == 0 {
@@ -138,6 +157,14 @@ pub fn delete(size: Size, tree: Tree, node: &mut [u8], row: &mut [u16], tag: u16
     };
     Removed {
         answer: 0,
-        tree: remove(size, tree, node, row, v),
+        tree: remove(size, tree, node, row, marks, v),
     }
+}
+
+// Refusals: 20, 5, 21. A refusal changes nothing.
+pub fn delete(size: Size, tree: Tree, node: &mut [u8], row: &mut [u16], tag: u16) -> Removed
+    ensures { λ w. ⌜ DeleteEnds (recordsOf size tree (now (node .entry)) (now (row .entry))) tag (w .answer) (left (w .tree) (now (node .exit)) (now (row .exit))) ⌝ }
+{
+    let mut marks = [0u8; 16384];
+    delete_marked(size, tree, node, row, &mut marks, tag)
 }

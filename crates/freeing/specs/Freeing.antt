@@ -3,15 +3,9 @@ use mathlib.Core.Logic.{_≢_}
 use mathlib.Core.List.{List}
 use Prim.Native.Nat.{ℕ}
 use Rattle.records.specs.declared.Tree.{Tree}
-use Rattle.records.specs.Records.{Table, InUse, Alive}
-use Rattle.records.specs.Sound.{Linked, Excepting}
-use Rattle.table.specs.Rules.{Fitting, MarkedRow, Meets}
-
--- what freeing asks: a node in use of a linked tree, and a table that meets rule 6, its halves as long, its rows few
-pub record Freeable (t : Tree) (e : Table) (v : ℕ) : Type 0 where
-  pub fitting : Fitting t e
-  pub used : InUse t v
-  pub excepting : Excepting t e
+use Rattle.records.specs.Records.{InUse, Alive}
+use Rattle.records.specs.Sound.{Linked}
+use Rattle.table.specs.Rules.{MarkedRow, Meets}
 
 -- a living version other than the one at node v, the one at node n, reads node g's own row r
 abbrev pub OtherMeets : Tree → List ℕ → ℕ → ℕ → ℕ → ℕ → Type 0

@@ -3,9 +3,9 @@ ghost use mathlib.Core.Path.{_≡_};
 ghost use Prim.Native.Nat.{_<_};
 ghost use Rattle.basics.specs.Decide.{Decides};
 ghost use Rattle.records.specs.Records.{treeOf, tableOf, InUse};
-ghost use Rattle.table.specs.Rules.{Entering, Seeking, Judging};
+ghost use Rattle.table.specs.Rules.{Seeking, Judging};
 ghost use Rattle.removal.specs.Removal.{Freed};
-ghost use Rattle.freeing.specs.Freeing.{Freeable, Asking, OtherMeets, OthersMeet, MeetsAlone};
+ghost use Rattle.freeing.specs.Freeing.{Asking, OtherMeets, OthersMeet, MeetsAlone};
 
 // A byte as an index, and a 16-bit number.
 fn wide(x: u8) -> usize
@@ -95,7 +95,7 @@ fn alone<'a>(
 }
 
 // The entries that only the version at node v reads become free. The marks are those of the table as it was.
-fn free_alone<'a>(
+pub fn free_alone<'a>(
     state: &'a [u8; 128],
     tag: &'a [u16; 128],
     parent: &'a [u8; 128],
@@ -120,49 +120,4 @@ fn free_alone<'a>(
         }
         i += 1;
     }
-}
-
-// The same, with marks that are all 0.
-fn free_marked<'a>(
-    state: &'a [u8; 128],
-    tag: &'a [u16; 128],
-    parent: &'a [u8; 128],
-    rows: usize,
-    node: &mut [u8],
-    row: &mut [u16],
-    marks: &mut [u8],
-    v: usize,
-)
-    requires { ⌜ Freeable (treeOf (now state) (now tag) (now parent)) (tableOf rows (now node) (now row)) v
-        × Entering (tableOf rows (now node) (now row)) (now marks) 0 ⌝ }
-    ensures { λ x. ⌜ Freed (treeOf (now (state .entry)) (now (tag .entry)) (now (parent .entry))) (tableOf rows (now (node .entry)) (now (row .entry))) v
-        (now (node .exit)) (now (row .exit)) ⌝ }
-{
-    if !table::entries(state, tag, parent, rows, node, row, marks) {
-        return;
-    }
-    free_alone(state, tag, parent, rows, node, row, marks, v);
-}
-
-// The entries that only the version at node v reads become free. Few rows need few marks.
-pub fn free_rows<'a>(
-    state: &'a [u8; 128],
-    tag: &'a [u16; 128],
-    parent: &'a [u8; 128],
-    rows: usize,
-    node: &mut [u8],
-    row: &mut [u16],
-    v: usize,
-)
-    requires { ⌜ Freeable (treeOf (now state) (now tag) (now parent)) (tableOf rows (now node) (now row)) v ⌝ }
-    ensures { λ x. ⌜ Freed (treeOf (now (state .entry)) (now (tag .entry)) (now (parent .entry))) (tableOf rows (now (node .entry)) (now (row .entry))) v
-        (now (node .exit)) (now (row .exit)) ⌝ }
-{
-    if rows <= 128 {
-        let mut marks = [0u8; 16384];
-        free_marked(state, tag, parent, rows, node, row, &mut marks, v);
-        return;
-    }
-    let mut marks = [0u8; 131072];
-    free_marked(state, tag, parent, rows, node, row, &mut marks, v);
 }

@@ -2,11 +2,15 @@
 ghost use Rattle.basics.specs.Decide.{Decides};
 ghost use Rattle.records.specs.Records.{recordsOf};
 ghost use Rattle.records.specs.Sound.{Sound};
+ghost use Rattle.table.specs.Rules.{Blank};
+ghost use Rattle.soundness.specs.Parts.{Verdict};
 use measures::Size;
 use records::Tree;
 
-pub fn sound<'a>(size: Size, tree: Tree, node: &'a [u8], row: &'a [u16]) -> bool
-    ensures { λ b. ⌜ Decides b (Sound (recordsOf size tree (now (node .entry)) (now (row .entry)))) ⌝ }
+// The seven rules, with marks that are all 0. If they are met, the marks are left for each node and row that an entry names.
+pub fn judged<'a>(size: Size, tree: Tree, node: &'a [u8], row: &'a [u16], marks: &mut [u8]) -> bool
+    requires { ⌜ Blank (size .rows) (now marks) ⌝ }
+    ensures { λ b. ⌜ Verdict (recordsOf size tree (now (node .entry)) (now (row .entry))) (now (marks .exit)) b ⌝ }
 {
     if !measures::within(size) {
         return false;
@@ -21,8 +25,16 @@ pub fn sound<'a>(size: Size, tree: Tree, node: &'a [u8], row: &'a [u16]) -> bool
         return false;
     }
     let rows = size.rows;
-    if !table::sound(&tree.state, &tree.tag, &tree.parent, rows, node, row) {
+    if !table::judged(&tree.state, &tree.tag, &tree.parent, rows, node, row, marks) {
         return false;
     }
     true
+}
+
+// The seven rules.
+pub fn sound<'a>(size: Size, tree: Tree, node: &'a [u8], row: &'a [u16]) -> bool
+    ensures { λ b. ⌜ Decides b (Sound (recordsOf size tree (now (node .entry)) (now (row .entry)))) ⌝ }
+{
+    let mut marks = [0u8; 16384];
+    judged(size, tree, node, row, &mut marks)
 }

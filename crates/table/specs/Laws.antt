@@ -1,36 +1,40 @@
 -- Laws of the table's check: what the marks say after each entry, when going up meets a node, rules 6 and 7 one entry at a time. Assumes nothing.
 use mathlib.Core.Path.{_≡_, refl, sym, _∙_, ap}
 use mathlib.Core.Logic.{_≢_, _↔_, by-cases}
-use mathlib.Core.Bool.{true, false, false≢true}
+use mathlib.Core.Bool.{Bool, true, false, false≢true}
 use mathlib.Core.List.{List}
-use Prim.Native.Nat.{ℕ, _+_, _*_, _≤_, _<_}
+use Prim.Native.Nat.{ℕ, _+_, _*_, _/_, _≤_, _<_}
 use native.Mathlib.Decide.{ℕ-discrete, decLt}
 use native.Mathlib.Omega.{arith}
-use lib.ListN.{length, set, replicate, length-set, length-replicate, getD-replicate}
+use lib.ListN.{length, set, replicate, length-set, length-replicate, getD-replicate, List·getD-eq-default}
 use lib.Seq.{getD-set-same, getD-set-other}
 use Rattle.basics.specs.Decide.{at}
+use Rattle.bits.specs.Bits.{has, joined}
+use Rattle.bits.specs.Laws.{has-none, joined-size, joined-bytes, has-joined, has-others}
 use Rattle.records.specs.declared.Tree.{Tree}
 use Rattle.records.specs.Records.{Table, InUse, Alive, up}
 use Rattle.records.specs.Reading.{Owns, Reads, origin, own}
 use Rattle.records.specs.Sound.{Linked, Excepting}
 use Rattle.tree.specs.Loops.{Climbing, climb-over, linked-reaches}
-use Rattle.table.specs.Rules.{ReadAt, slot, Marked, EntryFits, Entering, Entered, Meets, here, above, Met, Judging, Nodes}
+use Rattle.table.specs.Rules.{ReadAt, slot, Marked, EntryFits, Entering, Entered, Meets, here, above, Met, Judging, Nodes, Blank}
 
 -- Marks
 
 module _ (e : Table) (marks : List ℕ) where
   -- before the first entry nothing is marked
-  pub marked-none : e .rows * 128 ≤ length marks → ((k : ℕ) → k < length marks → at marks k ≡ 0) → Marked e marks 0
+  pub marked-none : e .rows * 16 ≤ length marks → ((k : ℕ) → at marks k ≡ 0) → Marked e marks 0
   marked-none l h = record {
     room = l;
+    bytes = λ k. omega (arith, h k);
     named = λ n r j z m s k o. absurd (omega arith);
-    only = λ n r z m s x. absurd (x (h (slot n r) (omega (arith, l))));
+    only = λ n r z m s x. absurd (false≢true (sym (has-none marks (slot n r) (h (slot n r / 8))) ∙ x));
   }
 
   -- a free place leaves the marks as they are
   pub marked-free : (i : ℕ) → at (e .node) i ≡ 0 → Marked e marks i → Marked e marks (i + 1)
   marked-free i f m = record {
     room = m .room;
+    bytes = m .bytes;
     named = λ n r j z l s k o. by-cases (ℕ-discrete j i)
         (λ x. absurd (z (sym (o .1) ∙ ap (at (e .node)) x ∙ f)))
         (λ x. m .named n r j z l s (omega arith) o);
@@ -38,38 +42,52 @@ module _ (e : Table) (marks : List ℕ) where
   }
 
   -- an exception marks its node and row, and no other
-  pub marked-more : (n r i : ℕ) → n < 128 → r < e .rows → Owns e n r i → Marked e marks i → Marked e (set marks (slot n r) 1) (i + 1)
-  marked-more n r i l s o m = record {
-    room = omega (arith, m .room, length-set marks (slot n r) 1);
+  pub marked-more : (n r i : ℕ) → n < 128 → r < e .rows → Owns e n r i → has marks (slot n r) ≡ false → Marked e marks i → Marked e (joined marks (slot n r)) (i + 1)
+  marked-more n r i l s o f m = record {
+    room = omega (arith, m .room, joined-size marks (slot n r) inside byte f);
+    bytes = joined-bytes marks (slot n r) inside byte f (m .bytes);
     named = λ a b j z k w h p. by-cases (ℕ-discrete (slot a b) (slot n r))
-        (λ x q. omega (arith, q, same a b x))
-        (λ x q. m .named a b j z k w (earlier a b j h p x) p (sym (other a b x) ∙ q));
+        (λ x. ap (has (joined marks (slot n r))) x ∙ has-joined marks (slot n r) inside byte f)
+        (λ x. other a b x ∙ m .named a b j z k w (earlier a b j h p x) p);
     only = λ a b z k w x. by-cases (ℕ-discrete (slot a b) (slot n r))
         (λ y. (i, omega arith, (o .0, omega (arith, o .1), omega (arith, o .2))))
-        (λ y. let (j, h, p) = m .only a b z k w (λ q. x (other a b y ∙ q)) in (j, omega arith, p));
+        (λ y. let (j, h, p) = m .only a b z k w (sym (other a b y) ∙ x) in (j, omega arith, p));
   }
     where
-      same : (a b : ℕ) → slot a b ≡ slot n r → at (set marks (slot n r) 1) (slot a b) ≡ 1
-      same a b x = ap (at (set marks (slot n r) 1)) x ∙ getD-set-same marks (slot n r) 1 0 (omega (arith, m .room))
+      inside : slot n r < 8 * length marks
+      inside = omega (arith, m .room)
 
-      other : (a b : ℕ) → slot a b ≢ slot n r → at (set marks (slot n r) 1) (slot a b) ≡ at marks (slot a b)
-      other a b x = getD-set-other marks (slot n r) (slot a b) 1 0 x
+      byte : at marks (slot n r / 8) < 256
+      byte = m .bytes (slot n r / 8)
+
+      other : (a b : ℕ) → slot a b ≢ slot n r → has (joined marks (slot n r)) (slot a b) ≡ has marks (slot a b)
+      other a b x = has-others marks (slot n r) inside byte f (slot a b) x
 
       earlier : (a b j : ℕ) → j < i + 1 → Owns e a b j → slot a b ≢ slot n r → j < i
       earlier a b j h p x = by-cases (ℕ-discrete j i) (λ y. absurd (x (cc))) (λ y. omega arith)
 
   -- a node without an own row has no mark there
-  pub unmarked : (n r i : ℕ) → n ≢ 0 → n < 128 → r < e .rows → Marked e marks i → ((j : ℕ) → j < i → Owns e n r j → ⊥) → at marks (slot n r) ≡ 0
-  unmarked n r i z l s m h = by-cases (ℕ-discrete (at marks (slot n r)) 0) (λ x. x) (λ x. let (j, k, o) = m .only n r z l s x in absurd (h j k o))
+  pub unmarked : (n r i : ℕ) → n ≢ 0 → n < 128 → r < e .rows → Marked e marks i → ((j : ℕ) → j < i → Owns e n r j → ⊥) → has marks (slot n r) ≡ false
+  unmarked n r i z l s m h = go (has marks (slot n r)) refl
+    where
+      go : (b : Bool) → has marks (slot n r) ≡ b → b ≡ false
+      go true x = let (j, k, o) = m .only n r z l s x in absurd (h j k o)
+      go false x = refl
 
--- what a table needs before its first entry is tested, with no marks
-pub entering-first : (e : Table) (room : ℕ) → length (e .row) ≡ length (e .node) → e .rows ≤ 1024 → e .rows * 128 ≤ room → Entering e (replicate room 0) 0
-entering-first e room h f l = record {
-  halves = h;
-  few = f;
-  marked = marked-none e (replicate room 0) (omega (arith, l, length-replicate {A = ℕ} room 0))
-      (λ k x. getD-replicate {A = ℕ} room k 0 0 (omega (arith, x, length-replicate {A = ℕ} room 0)));
+-- what a table needs before its first entry is tested
+pub entering-first : (e : Table) (marks : List ℕ) → length (e .row) ≡ length (e .node) → e .rows ≤ 1024 → Blank (e .rows) marks → Entering e marks 0
+entering-first e marks h f b = record { halves = h; few = f; marked = marked-none e marks (b .room f) (b .zero) }
+
+pub blank-zeros : (rows : ℕ) → Blank rows (replicate 16384 0)
+blank-zeros rows = record {
+  room = λ l. omega (arith, l, length-replicate {A = ℕ} 16384 0);
+  zero = λ k. zeros 16384 k;
 }
+  where
+    zeros : (n k : ℕ) → at (replicate n 0) k ≡ 0
+    zeros n k = by-cases (decLt k n)
+        (λ l. getD-replicate {A = ℕ} n k 0 0 l)
+        (λ l. List·getD-eq-default (replicate n 0) 0 {n = k} (omega (arith, length-replicate {A = ℕ} n 0)))
 
 -- Numbers of nodes
 
@@ -91,7 +109,7 @@ nodes-set xs i x l h = record {
 
 module _ (t : Tree) (marks : List ℕ) (r g : ℕ) where
   -- past a node without a mark
-  pub meets-up : {n : ℕ} → n ≢ g → n ≢ 0 → at marks (slot n r) ≡ 0 → Meets t marks r g n ↔ Meets t marks r g (up t n)
+  pub meets-up : {n : ℕ} → n ≢ g → n ≢ 0 → has marks (slot n r) ≡ false → Meets t marks r g n ↔ Meets t marks r g (up t n)
   meets-up a z f = (λ d. through d a, λ d. above a z f d)
     where
       through : {n : ℕ} → Meets t marks r g n → n ≢ g → Meets t marks r g (up t n)
@@ -103,9 +121,9 @@ module _ (t : Tree) (marks : List ℕ) (r g : ℕ) where
   meets-root a z (here x) = a x
   meets-root a z (above x y h d) = y z
 
-  pub meets-marked : {n : ℕ} → n ≢ g → at marks (slot n r) ≢ 0 → Meets t marks r g n → ⊥
+  pub meets-marked : {n : ℕ} → n ≢ g → has marks (slot n r) ≡ true → Meets t marks r g n → ⊥
   meets-marked a f (here x) = a x
-  meets-marked a f (above x y h d) = f h
+  meets-marked a f (above x y h d) = false≢true (sym h ∙ f)
 
 -- a climb from a node in use of a linked tree has fewer than 128 steps
 pub climb-ends : (t : Tree) (n node : ℕ) → Linked t → InUse t n → Climbing t n node 128 → ⊥
@@ -131,20 +149,20 @@ module _ (t : Tree) (e : Table) (marks : List ℕ) (i : ℕ) where
 
   module _ (h : Entering e marks i) (n r : ℕ) (z : n ≢ 0) (o : Owns e n r i) where
     -- an exception that fits names what no entry before it names
-    pub fits-unmarked : EntryFits t e i → at marks (slot n r) ≡ 0
+    pub fits-unmarked : EntryFits t e i → has marks (slot n r) ≡ false
     fits-unmarked f =
         let (u, l) = fits-named t e n r i z o f in
-        unmarked e marks n r i z (u .0) (omega (arith, h .few)) (h .marked) (λ j k p. f .once j k (λ y. z (sym (o .1) ∙ y)) (p .1 ∙ sym (o .1)) (p .2 ∙ sym (o .2)))
+        unmarked e marks n r i z (u .0) l (h .marked) (λ j k p. f .once j k (λ y. z (sym (o .1) ∙ y)) (p .1 ∙ sym (o .1)) (p .2 ∙ sym (o .2)))
 
     -- an exception that names a node in use and a row, without a mark, fits and gets its mark
-    pub entered-new : InUse t n → r < e .rows → at marks (slot n r) ≡ 0 → Entered t e i (set marks (slot n r) 1) true
+    pub entered-new : InUse t n → r < e .rows → has marks (slot n r) ≡ false → Entered t e i (joined marks (slot n r)) true
     entered-new u l f = record {
       fits = record {
         free = λ x. absurd (z (sym (o .1) ∙ x));
         named = λ x. rw (o .1, o .2) (u, l);
-        once = λ j k x a b. h .marked .named n r j z (u .0) (omega (arith, h .few)) k (omega (arith, o .0), a ∙ o .1, b ∙ o .2) f;
+        once = λ j k x a b. false≢true (sym f ∙ h .marked .named n r j z (u .0) l k (omega (arith, o .0), a ∙ o .1, b ∙ o .2));
       };
-      marked = λ x. marked-more e marks n r i (u .0) (omega (arith, h .few)) o (h .marked);
+      marked = λ x. marked-more e marks n r i (u .0) l o f (h .marked);
     }
 
 -- Rule 6, one entry at a time
@@ -175,14 +193,14 @@ module _ (t : Tree) (e : Table) (marks : List ℕ) (h : Judging t e marks) where
   pub meets-reads : {g r i n : ℕ} → g ≢ 0 → r < e .rows → Owns e g r i → InUse t n → Meets t marks r g n → Reads t e r (e .rows + i) n
   meets-reads z l o u (here x) = own (λ y. z (sym x ∙ y)) (o .0, o .1 ∙ sym x, o .2) refl
   meets-reads {r = r} z l o u (above {n = n} x y f d) = Reads.above y
-      (λ j p. h .marked .named n r j y (u .0) (omega (arith, h .fitting .few)) (p .0) p f)
+      (λ j p. false≢true (sym f ∙ h .marked .named n r j y (u .0) l (p .0) p))
       (meets-reads z l o (h .fitting .linked .parent n y u) d)
 
   pub reads-meets : {g r i p n : ℕ} → p ≡ e .rows + i → r < e .rows → Owns e g r i → InUse t n → Reads t e r p n → Meets t marks r g n
   reads-meets q l o u (origin x y) = absurd (omega arith)
   reads-meets {i = i} q l o u (own {i = j} z p y) = let k : j ≡ i = omega arith in here (sym (p .1) ∙ ap (at (e .node)) k ∙ o .1)
   reads-meets {g} {r} q l o u (Reads.above {n = n} z f d) = by-cases (ℕ-discrete n g) (λ x. here x)
-      (λ x. above x z (unmarked e marks n r _ z (u .0) (omega (arith, h .fitting .few)) (h .marked) (λ j k p. f j p)) (reads-meets q l o (h .fitting .linked .parent n z u) d))
+      (λ x. above x z (unmarked e marks n r _ z (u .0) l (h .marked) (λ j k p. f j p)) (reads-meets q l o (h .fitting .linked .parent n z u) d))
 
   -- a living node reads its own row
   pub read-own : (i : ℕ) → i < length (e .node) → at (t .state) (at (e .node) i) ≡ 1 → ReadAt t e i

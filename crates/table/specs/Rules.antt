@@ -1,11 +1,12 @@
 -- The table's rules as the check tests them: marks for what entries name, one entry at a time. Definitions only. Assumes nothing.
 use mathlib.Core.Path.{_≡_}
 use mathlib.Core.Logic.{_≢_}
-use mathlib.Core.Bool.{Bool, true}
+use mathlib.Core.Bool.{Bool, true, false}
 use mathlib.Core.List.{List}
 use Prim.Native.Nat.{ℕ, _+_, _*_, _≤_, _<_}
 use lib.ListN.{length}
 use Rattle.basics.specs.Decide.{Decides, at}
+use Rattle.bits.specs.Bits.{has}
 use Rattle.records.specs.declared.Tree.{Tree}
 use Rattle.records.specs.Records.{Table, InUse, Alive, up}
 use Rattle.records.specs.Reading.{Owns, Reads}
@@ -22,15 +23,21 @@ pub record Fitting (t : Tree) (e : Table) : Type 0 where
   pub few : e .rows ≤ 1024
   pub linked : Linked t
 
--- where the mark for a node and a row stands
+-- where the mark for a node and a row stands among the bits
 abbrev pub slot : ℕ → ℕ → ℕ
 slot n r = r * 128 + n
 
 -- marked are the nodes and rows that entries below i name
 pub record Marked (e : Table) (marks : List ℕ) (i : ℕ) : Type 0 where
-  pub room : e .rows * 128 ≤ length marks
-  pub named : (n r j : ℕ) → n ≢ 0 → n < 128 → r < e .rows → j < i → Owns e n r j → at marks (slot n r) ≢ 0
-  pub only : (n r : ℕ) → n ≢ 0 → n < 128 → r < e .rows → at marks (slot n r) ≢ 0 → (j : ℕ) × (j < i) × Owns e n r j
+  pub room : e .rows * 16 ≤ length marks
+  pub bytes : (k : ℕ) → at marks k < 256
+  pub named : (n r j : ℕ) → n ≢ 0 → n < 128 → r < e .rows → j < i → Owns e n r j → has marks (slot n r) ≡ true
+  pub only : (n r : ℕ) → n ≢ 0 → n < 128 → r < e .rows → has marks (slot n r) ≡ true → (j : ℕ) × (j < i) × Owns e n r j
+
+-- marks that are all 0, one for each node and row where the rows are few
+pub record Blank (rows : ℕ) (marks : List ℕ) : Type 0 where
+  pub room : rows ≤ 1024 → rows * 16 ≤ length marks
+  pub zero : (k : ℕ) → at marks k ≡ 0
 
 -- rule 6 at entry i, against the entries before it
 pub record EntryFits (t : Tree) (e : Table) (i : ℕ) : Type 0 where
@@ -56,7 +63,7 @@ pub record Entries (t : Tree) (e : Table) (marks : List ℕ) (b : Bool) : Type 0
 -- going up from n, the first node that is g or marked at row r is g
 pub data Meets (t : Tree) (marks : List ℕ) (r g : ℕ) : ℕ → Type 0 where
   here : {n : ℕ} → n ≡ g → Meets t marks r g n
-  above : {n : ℕ} → n ≢ g → n ≢ 0 → at marks (slot n r) ≡ 0 → Meets t marks r g (up t n) → Meets t marks r g n
+  above : {n : ℕ} → n ≢ g → n ≢ 0 → has marks (slot n r) ≡ false → Meets t marks r g (up t n) → Meets t marks r g n
 
 -- and it does so from some living node
 abbrev pub Met : Tree → List ℕ → ℕ → ℕ → Type 0
@@ -65,7 +72,7 @@ Met t marks r g = (n : ℕ) × Alive t n × Meets t marks r g n
 -- row r has marks, one for each node
 pub record MarkedRow (marks : List ℕ) (r : ℕ) : Type 0 where
   pub row : r < 1024
-  pub room : r * 128 + 128 ≤ length marks
+  pub room : r * 16 + 16 ≤ length marks
 
 -- a node g other than 0 and a row of a linked tree; and a node n in use to start from
 pub record Seeking (t : Tree) (marks : List ℕ) (g r : ℕ) : Type 0 where
@@ -87,6 +94,11 @@ pub record Judging (t : Tree) (e : Table) (marks : List ℕ) : Type 0 where
   pub fitting : Fitting t e
   pub excepting : Excepting t e
   pub marked : Marked e marks (length (e .node))
+
+-- the verdict on rules 6 and 7, and the marks if it is good
+pub record Verdict (t : Tree) (e : Table) (marks : List ℕ) (b : Bool) : Type 0 where
+  pub sound : Decides b (TableSound t e)
+  pub marked : b ≡ true → Marked e marks (length (e .node))
 
 -- rule 7 at entry i: if it is an exception, it is read by some living version
 abbrev pub ReadAt : Tree → Table → ℕ → Type 0

@@ -5,7 +5,7 @@ ghost use lib.ListN.{length};
 ghost use Rattle.basics.specs.Decide.{Decides};
 ghost use Rattle.records.specs.Records.{treeOf, tableOf};
 ghost use Rattle.records.specs.Sound.{Linked, AllRead};
-ghost use Rattle.table.specs.Rules.{Fitting, Entering, Entered, Entries, MarkedRow, Seeking, Seeker, Nodes, Meets, Met, Judging, ReadAt, TableSound};
+ghost use Rattle.table.specs.Rules.{Fitting, Entering, Entered, Entries, MarkedRow, Seeking, Seeker, Nodes, Meets, Met, Judging, ReadAt, Blank, Verdict};
 
 // A byte as an index, and a 16-bit number.
 fn wide(x: u8) -> usize
@@ -52,15 +52,15 @@ fn enter<'a>(
         return false;
     }
     let k = r * 128 + n;
-    if marks[k] != 0 {
+    if bits::has(marks, k) {
         return false;
     }
-    marks[k] = 1;
+    bits::join(marks, k);
     true
 }
 
 // Rule 6.
-pub fn entries<'a>(
+fn entries<'a>(
     state: &'a [u8; 128],
     tag: &'a [u16; 128],
     parent: &'a [u8; 128],
@@ -104,7 +104,7 @@ pub fn meets<'a>(
         if m == 0 {
             return false;
         }
-        if marks[r * 128 + m] != 0 {
+        if bits::has(marks, r * 128 + m) {
             return false;
         }
         m = wide(parent[m]);
@@ -178,7 +178,7 @@ fn open_child<'a>(
         if c == 0 {
             return 0;
         }
-        if marks[r * 128 + c] == 0 {
+        if !bits::has(marks, r * 128 + c) {
             return c;
         }
         c = wide(after[c]);
@@ -289,8 +289,8 @@ fn all_read<'a>(
     true
 }
 
-// Rules 6 and 7, with marks that are all 0.
-fn judged<'a>(
+// Rules 6 and 7, of a tree that meets rule 3. The marks are left as rule 6 made them.
+pub fn judged<'a>(
     state: &'a [u8; 128],
     tag: &'a [u16; 128],
     parent: &'a [u8; 128],
@@ -299,9 +299,8 @@ fn judged<'a>(
     row: &'a [u16],
     marks: &mut [u8],
 ) -> bool
-    requires { ⌜ Fitting (treeOf (now state) (now tag) (now parent)) (tableOf rows (now node) (now row))
-        × Entering (tableOf rows (now node) (now row)) (now marks) 0 ⌝ }
-    ensures { λ b. ⌜ Decides b (TableSound (treeOf (now (state .entry)) (now (tag .entry)) (now (parent .entry))) (tableOf rows (now (node .entry)) (now (row .entry)))) ⌝ }
+    requires { ⌜ Fitting (treeOf (now state) (now tag) (now parent)) (tableOf rows (now node) (now row)) × Blank rows (now marks) ⌝ }
+    ensures { λ b. ⌜ Verdict (treeOf (now (state .entry)) (now (tag .entry)) (now (parent .entry))) (tableOf rows (now (node .entry)) (now (row .entry))) (now (marks .exit)) b ⌝ }
 {
     if !entries(state, tag, parent, rows, node, row, marks) {
         return false;
@@ -321,24 +320,4 @@ fn judged<'a>(
         return false;
     }
     true
-}
-
-// Rules 6 and 7, of a tree that meets rule 3. Few rows need few marks.
-pub fn sound<'a>(
-    state: &'a [u8; 128],
-    tag: &'a [u16; 128],
-    parent: &'a [u8; 128],
-    rows: usize,
-    node: &'a [u8],
-    row: &'a [u16],
-) -> bool
-    requires { ⌜ Fitting (treeOf (now state) (now tag) (now parent)) (tableOf rows (now node) (now row)) ⌝ }
-    ensures { λ b. ⌜ Decides b (TableSound (treeOf (now (state .entry)) (now (tag .entry)) (now (parent .entry))) (tableOf rows (now (node .entry)) (now (row .entry)))) ⌝ }
-{
-    if rows <= 128 {
-        let mut marks = [0u8; 16384];
-        return judged(state, tag, parent, rows, node, row, &mut marks);
-    }
-    let mut marks = [0u8; 131072];
-    judged(state, tag, parent, rows, node, row, &mut marks)
 }

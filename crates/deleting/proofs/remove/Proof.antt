@@ -8,8 +8,8 @@ use Rattle.records.specs.Records.{recordsOf, table}
 use Rattle.deleting.proofs.remove.Statement.{statement}
 use Rattle.deleting.proofs.remove.Tie as tie
 
-free-rows-requires : tie.Need-free-rows-requires
-free-rows-requires c κs = freeable (c .before .before .before .before .before .before .before .before .pre)
+free-alone-requires : tie.Need-free-alone-requires
+free-alone-requires c κs = let p = c .before .before .before .before .before .before .before .before .before .pre in freeable (p .0) (p .1)
 
 ghosted-requires : tie.Need-ghosted-requires
 ghosted-requires c κs = search needs
@@ -21,7 +21,7 @@ settled-requires : tie.Need-settled-requires
 settled-requires c κs =
     let p = c .before .before in
     let f = p .before .before .before .before .before .before in
-    rw (p .pruned .ensures .1, p .before .ghosted .ensures) (thin-low (f .before .before .before .before .before .before .before .before .before .pre))
+    rw (p .pruned .ensures .1, p .before .ghosted .ensures) (thin-low (f .before .before .before .before .before .before .before .before .before .before .pre .0))
 
 same-length : tie.Need-same-length
 same-length c = search needs
@@ -35,16 +35,16 @@ returns c =
     let s = c .before .before in
     let p = s .before .before .before in
     let f = p .before .before .before .before .before .before in
-    let a = f .before .before .before .before .before .before .before .before .before .args in
+    let a = f .before .before .before .before .before .before .before .before .before .before .args in
     let z = recordsOf (a .size) (a .t2) (a .node .now) (a .row .now) in
-    let l = freed-only (a .t2) (table z) (a .v) _ _ (f .free-rows .ensures) in
+    let l = freed-only (a .t2) (table z) (a .v) _ _ (f .free-alone .ensures) in
     left-same (s .settled .ensures .0 ∙ rw (p .pruned .ensures .0, p .pruned .ensures .1, p .before .ghosted .ensures)) (s .settled .ensures .1 ∙ rw (p .pruned .ensures .0, p .pruned .ensures .1, p .before .ghosted .ensures, l .0)) (l .1)
 
 pub remove-spec : {M : Type 1} → statement M
 remove-spec =
     tie.close
     (tie.spec
-    free-rows-requires
+    free-alone-requires
     ghosted-requires
     pruned-requires
     settled-requires

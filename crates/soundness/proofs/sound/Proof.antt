@@ -1,75 +1,17 @@
--- `soundness::sound` meets its contract: the parts, one after the other. Assumes nothing.
+-- `soundness::sound` meets its contract: there is a mark for each node and row. Assumes nothing.
 use borrow.Author.Needs.{needs}
-use Rattle.soundness.specs.Parts.{sound-of, tree-of, table-of, fitting}
-use Rattle.tree.specs.Rules.{TreeSound}
-use Rattle.records.specs.Sound.{Measured}
-use Rattle.records.specs.Records.{recordsOf}
-use Rattle.measures.specs.Measures.{Within}
-use Rattle.basics.specs.Decide.{passed, failed}
+use Rattle.table.specs.Laws.{blank-zeros}
 use Rattle.soundness.proofs.sound.Statement.{statement}
 use Rattle.soundness.proofs.sound.Tie as tie
-use Rattle.tree.proofs.sound.Reads as sound-reads′
 
-sized : (c : tie.Else1) → Within (c .before .before .before .before .args .size)
-sized c = passed (c .before .within .result) (c .before .within .ensures) (c .if1 .left)
+slice-aggregate-judged : tie.Need-slice-aggregate-judged
+slice-aggregate-judged c = search needs
 
-measured : (c : tie.Else3) → (let a = c .before .before .before .before .before .before .before .before .args in Measured (recordsOf (a .size) (a .t2) (a .node .now) (a .row .now)))
-measured c =
-    let n = c .before .before in
-    record { within = sized (n .before .before); nodes = n .if2 .left; rows = c .if3 .left }
-
-grown : (c : tie.Else4) → TreeSound (c .before .before .before .before .before .before .before .before .before .before .before .before .before .before .args .t2)
-grown c = passed (c .before .sound .result) (c .before .sound .ensures) (c .if4 .left)
-
-within-requires : tie.Need-within-requires
-within-requires c κs = search needs
+judged-requires : tie.Need-judged-requires
+judged-requires c κs = blank-zeros _
 
 returns : tie.Need-returns
-returns c = λ s. failed (c .before .within .result) (c .before .within .ensures) (c .if1 .taken) (s .measured .within)
-
-sub-if2 : tie.Need-sub-if2
-sub-if2 c = sized (c .before) .places .0
-
-returns-2 : tie.Need-returns-2
-returns-2 c = λ s. c .if2 .taken (s .measured .nodes)
-
-sub-if3 : tie.Need-sub-if3
-sub-if3 c = sized (c .before .before .before) .places .0
-
-returns-3 : tie.Need-returns-3
-returns-3 c = λ s. c .if3 .taken (s .measured .rows)
-
-sound-requires : tie.Need-sound-requires
-sound-requires c κs = search needs
-
-returns-4 : tie.Need-returns-4
-returns-4 c = λ s. failed (c .before .sound .result) (c .before .sound .ensures) (c .if4 .taken) (tree-of _ s)
-
-sound-requires-2 : tie.Need-sound-requires-2
-sound-requires-2 c κs =
-    let t = c .before .before .before .before in
-    fitting _ (measured (t .before .before .before .before .before .before)) (grown t .linked)
-
-returns-5 : tie.Need-returns-5
-returns-5 c = λ s. failed (c .before .sound2 .result) (c .before .sound2 .ensures) (c .if5 .taken) (table-of _ s)
-
-returns-6 : tie.Need-returns-6
-returns-6 c =
-    let t = c .before .before .before .before .before .before in
-    sound-of _ (measured (t .before .before .before .before .before .before)) (grown t) (passed (c .before .sound2 .result) (c .before .sound2 .ensures) (c .if5 .left))
+returns c = search needs
 
 pub sound-spec : {M : Type 1} → statement M
-sound-spec =
-    tie.close
-    (tie.spec
-    within-requires
-    returns
-    sub-if2
-    returns-2
-    sub-if3
-    returns-3
-    sound-requires
-    returns-4
-    sound-requires-2
-    returns-5
-    returns-6)
+sound-spec = tie.close (tie.spec slice-aggregate-judged judged-requires returns)

@@ -1,6 +1,7 @@
 -- `table::enter` meets its contract: an exception is good if it names a node in use and a row and they have no mark yet. Assumes nothing.
 use borrow.Author.Needs.{needs}
 use mathlib.Core.Path.{sym, _∙_}
+use mathlib.Core.Bool.{false≢true}
 use native.Mathlib.Omega.{arith}
 use Rattle.records.specs.Records.{tableOf}
 use Rattle.records.specs.Reading.{Owns}
@@ -83,35 +84,39 @@ mul-k c = search needs
 add-k : tie.Need-add-k
 add-k c = search needs
 
-slice-read-if6 : tie.Need-slice-read-if6
-slice-read-if6 c =
+has-requires : tie.Need-has-requires
+has-requires c κs =
     let g = c .before in
     let y = g .before .before .before in
-    let s = y .before .before .before .before .before .before .before .before .before in
-    omega (arith, g .if5 .left, y .if3 .left, s .pre .1 .marked .room)
-
-returns-6 : tie.Need-returns-6
-returns-6 c =
-    let x = c .before .before .before .before .before .before in
-    let r = x .before in
-    let w = r .before .before in
-    let s = w .before .before .before .before .before in
-    let m = s .args .marks .now in
-    entered-not _ _ m _ (λ f. c .if6 .taken (fits-unmarked _ _ m _ (s .pre .1) _ _ (x .if1 .left) (own-row r) f))
-
-slice-write-marks : tie.Need-slice-write-marks
-slice-write-marks c =
-    let g = c .before .before in
-    let y = g .before .before .before in
-    let s = y .before .before .before .before .before .before .before .before .before in
-    omega (arith, g .if5 .left, y .if3 .left, s .pre .1 .marked .room)
+    omega (arith, g .if5 .left, y .if3 .left, y .before .before .before .before .before .before .before .before .before .pre .1 .marked .room)
 
 same-length : tie.Need-same-length
 same-length c = search needs
 
+returns-6 : tie.Need-returns-6
+returns-6 c =
+    let x = c .before .before .before .before .before .before .before in
+    let r = x .before in
+    let w = r .before .before in
+    let s = w .before .before .before .before .before in
+    let m = s .args .marks .now in
+    entered-not _ _ m _ (λ f. false≢true (sym (fits-unmarked _ _ m _ (s .pre .1) _ _ (x .if1 .left) (own-row r) f) ∙ sym (c .before .has .ensures) ∙ c .if6 .taken))
+
+join-requires : tie.Need-join-requires
+join-requires c κs =
+    let i = c .before in
+    let g = i .before .before .before in
+    let y = g .before .before .before in
+    (omega (arith, g .if5 .left, y .if3 .left, y .before .before .before .before .before .before .before .before .before .pre .1 .marked .room), sym (i .before .has .ensures) ∙ i .if6 .left)
+
+same-length-2 : tie.Need-same-length-2
+same-length-2 c = search needs
+
 returns-7 : tie.Need-returns-7
 returns-7 c =
-    let g = c .before .before in
+    let j = c .before .before in
+    let i = j .before .before in
+    let g = i .before .before .before in
     let u = g .before in
     let y = u .before .before in
     let x = y .before in
@@ -119,7 +124,7 @@ returns-7 c =
     let w = r .before .before in
     let s = w .before .before .before .before .before in
     let m = s .args .marks .now in
-    entered-new _ _ m _ (s .pre .1) _ _ (x .if1 .left) (own-row r) (omega (arith, y .if3 .left), u .if4 .left) (omega (arith, g .if5 .left)) (c .if6 .left)
+    rw (j .join .ensures) (entered-new _ _ m _ (s .pre .1) _ _ (x .if1 .left) (own-row r) (omega (arith, y .if3 .left), u .if4 .left) (omega (arith, g .if5 .left)) (sym (i .before .has .ensures) ∙ i .if6 .left))
 
 pub enter-spec : {M : Type 1} → statement M
 enter-spec =
@@ -138,8 +143,9 @@ enter-spec =
     returns-5
     mul-k
     add-k
-    slice-read-if6
-    returns-6
-    slice-write-marks
+    has-requires
     same-length
+    returns-6
+    join-requires
+    same-length-2
     returns-7)

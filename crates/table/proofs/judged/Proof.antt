@@ -1,20 +1,24 @@
 -- `table::judged` meets its contract: rule 6, which leaves the marks, and then rule 7. Assumes nothing.
 use borrow.Author.Needs.{needs}
+use mathlib.Core.Bool.{false≢true}
 use borrow.Author.Tests.{not-false}
+use Rattle.table.specs.Laws.{entering-first}
 use Rattle.basics.specs.Decide.{passed, failed}
 use Rattle.table.proofs.judged.Statement.{statement}
 use Rattle.table.proofs.judged.Tie as tie
 
 entries-requires : tie.Need-entries-requires
-entries-requires c κs = c .before .before .before .before .pre .1
+entries-requires c κs =
+    let p = c .before .before .before .before .pre in
+    entering-first _ _ (p .0 .halves) (p .0 .few) (p .1)
 
 same-length : tie.Need-same-length
 same-length c = search needs
 
 returns : tie.Need-returns
-returns c = λ s.
+returns c =
     let n = c .before .before .before .entries in
-    failed (n .result) (n .ensures .fits) (c .if1 .taken) (s .excepting)
+    record { sound = λ s. failed (n .result) (n .ensures .fits) (c .if1 .taken) (s .excepting); marked = λ x. absurd (false≢true x) }
 
 kin-requires : tie.Need-kin-requires
 kin-requires c κs = c .before .before .before .before .before .before .before .before .pre .0 .linked
@@ -38,7 +42,10 @@ same-length-2 : tie.Need-same-length-2
 same-length-2 c = search needs
 
 returns-2 : tie.Need-returns-2
-returns-2 c = λ s. failed (c .before .all-read .result) (c .before .all-read .ensures) (c .if2 .taken) (s .allRead)
+returns-2 c = record {
+  sound = λ s. failed (c .before .all-read .result) (c .before .all-read .ensures) (c .if2 .taken) (s .allRead);
+  marked = λ x. absurd (false≢true x);
+}
 
 same-length-3 : tie.Need-same-length-3
 same-length-3 c = search needs
@@ -48,8 +55,11 @@ returns-3 c =
     let i = c .before .before .before .before .before .before .before in
     let n = i .before .before .before .entries in
     record {
-      excepting = passed (n .result) (n .ensures .fits) (i .if1 .left);
-      allRead = passed (c .before .all-read .result) (c .before .all-read .ensures) (c .if2 .left);
+      sound = record {
+        excepting = passed (n .result) (n .ensures .fits) (i .if1 .left);
+        allRead = passed (c .before .all-read .result) (c .before .all-read .ensures) (c .if2 .left);
+      };
+      marked = λ x. n .ensures .marked (not-false _ (i .if1 .left));
     }
 
 pub judged-spec : {M : Type 1} → statement M

@@ -1,7 +1,7 @@
 -- `table::meets` meets its contract: the node reached meets g if and only if n does, and no climb has 128 steps. Assumes nothing.
 use borrow.Author.Needs.{needs}
 use Prim.Native.Nat.{_-_}
-use mathlib.Core.Path.{_≡_}
+use mathlib.Core.Path.{_≡_, sym, _∙_}
 use mathlib.Core.Logic.{_↔_}
 use native.Mathlib.Omega.{arith}
 use Rattle.records.specs.Records.{treeOf}
@@ -26,21 +26,21 @@ returns c = c .before .before .loop .inv .1 .1 (here (c .if1 .taken))
 returns-2 : tie.Need-returns-2 Inv-loop μ-loop
 returns-2 c = λ d. meets-root _ _ _ _ (c .before .if1 .left) (c .if2 .taken) (c .before .before .before .loop .inv .1 .0 d)
 
-mul-if3 : tie.Need-mul-if3 Inv-loop μ-loop
-mul-if3 c = search needs
+mul-has : tie.Need-mul-has Inv-loop μ-loop
+mul-has c = search needs
 
-add-if3 : tie.Need-add-if3 Inv-loop μ-loop
-add-if3 c = search needs
+add-has : tie.Need-add-has Inv-loop μ-loop
+add-has c = search needs
 
-shared-slice-read-if3 : tie.Need-shared-slice-read-if3 Inv-loop μ-loop
-shared-slice-read-if3 c = search needs
+has-requires : tie.Need-has-requires Inv-loop μ-loop
+has-requires c κs = search needs
 
 returns-3 : tie.Need-returns-3 Inv-loop μ-loop
 returns-3 c = λ d.
     let e = c .before .before in
     let l = e .before .before .before in
     let a = l .before .before .args in
-    meets-marked _ (a .marks .now) _ _ (e .before .if1 .left) (c .if3 .taken) (l .loop .inv .1 .0 d)
+    meets-marked _ (a .marks .now) _ _ (e .before .if1 .left) (sym (c .before .has .ensures) ∙ c .if3 .taken) (l .loop .inv .1 .0 d)
 
 element-copy-out-wide : tie.Need-element-copy-out-wide Inv-loop μ-loop
 element-copy-out-wide c = search needs
@@ -61,7 +61,7 @@ loop-again c =
     let l = z .before .before .before in
     let a = l .before .before .args in
     let v = l .loop .inv in
-    let h = meets-up _ (a .marks .now) _ _ (z .before .if1 .left) (z .if2 .left) (f .if3 .left) in
+    let h = meets-up _ (a .marks .now) _ _ (z .before .if1 .left) (z .if2 .left) (sym (f .before .has .ensures) ∙ f .if3 .left) in
     rw (c .wide .ensures) (
       climb-step _ _ _ _ (λ n k. l .before .before .pre .seeking .linked .parent n) (z .before .before .loop-test .taken) (z .if2 .left) (v .0),
       (λ d. h .0 (v .1 .0 d), λ d. v .1 .1 (h .1 d)),
@@ -83,9 +83,9 @@ meets-spec =
     loop-holds
     returns
     returns-2
-    mul-if3
-    add-if3
-    shared-slice-read-if3
+    mul-has
+    add-has
+    has-requires
     returns-3
     element-copy-out-wide
     wide-requires

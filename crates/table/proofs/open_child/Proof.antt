@@ -23,14 +23,14 @@ loop-holds c = let p = c .before .before .before .pre in omega (arith, p .0 .nod
 returns : tie.Need-returns Inv-loop μ-loop
 returns c = search needs
 
-mul-if2 : tie.Need-mul-if2 Inv-loop μ-loop
-mul-if2 c = search needs
+mul-has : tie.Need-mul-has Inv-loop μ-loop
+mul-has c = search needs
 
-add-if2 : tie.Need-add-if2 Inv-loop μ-loop
-add-if2 c = search needs
+add-has : tie.Need-add-has Inv-loop μ-loop
+add-has c = search needs
 
-shared-slice-read-if2 : tie.Need-shared-slice-read-if2 Inv-loop μ-loop
-shared-slice-read-if2 c = search needs
+has-requires : tie.Need-has-requires Inv-loop μ-loop
+has-requires c κs = search needs
 
 returns-2 : tie.Need-returns-2 Inv-loop μ-loop
 returns-2 c = search needs
@@ -65,9 +65,9 @@ open-child-spec =
     wide-requires
     loop-holds
     returns
-    mul-if2
-    add-if2
-    shared-slice-read-if2
+    mul-has
+    add-has
+    has-requires
     returns-2
     element-copy-out-wide-2
     wide-requires-2
