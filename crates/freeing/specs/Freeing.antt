@@ -13,7 +13,7 @@ OtherMeets t marks v g r n = Alive t n × (n ≢ v) × Meets t marks r g n
 
 -- some other does
 abbrev pub OthersMeet : Tree → List ℕ → ℕ → ℕ → ℕ → Type 0
-OthersMeet t marks v g r = (n : ℕ) × Alive t n × (n ≢ v) × Meets t marks r g n
+OthersMeet t marks v g r = (n : ℕ) × OtherMeets t marks v g r n
 
 -- the version at node v reads it, and no other
 pub record MeetsAlone (t : Tree) (marks : List ℕ) (v g r : ℕ) : Type 0 where

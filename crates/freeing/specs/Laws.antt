@@ -103,7 +103,7 @@ module _ (t : Tree) (e : Table) (marks : List ℕ) (h : Judging t e marks) (v : 
   alone-lonely m =
       let z = m .below in
       let p = meets-place z v u .0 (m .meets) in
-      lonely-yes t e v i z p (decides-false (shared-decides t e v (at (e .row) i)) (λ (n, a, x, q). m .alone (n, a, x, meets-place z n (living t n a) .1 (q ∙ p))))
+      lonely-yes t e v i z p (decides-false (shared-decides t e v (at (e .row) i)) (λ (n, a, x, q). m .alone (n, (a, x, meets-place z n (living t n a) .1 (q ∙ p)))))
 
   pub lonely-alone : lonely t e v i ≡ true → MeetsAlone t marks v (at (e .node) i) (at (e .row) i)
   lonely-alone x =
@@ -112,7 +112,7 @@ module _ (t : Tree) (e : Table) (marks : List ℕ) (h : Judging t e marks) (v : 
       record {
         below = z;
         meets = meets-place z v u .1 p;
-        alone = λ (n, a, y, m). s (n, a, y, meets-place z n (living t n a) .0 m ∙ sym p);
+        alone = λ (n, (a, y, m)). s (n, a, y, meets-place z n (living t n a) .0 m ∙ sym p);
       }
 
   -- an entry that the version at node v does not alone meet is not lonely

@@ -1,14 +1,9 @@
 -- The seven rules in the three parts that are checked: the measures, the tree, the table. Assumes nothing.
-use mathlib.Core.Path.{_≡_, sym, _∙_}
-use mathlib.Core.Bool.{Bool, true, false, false≢true}
-use mathlib.Core.List.{List}
-use Prim.Native.Nat.{ℕ}
-use lib.ListN.{length}
-use Rattle.basics.specs.Decide.{Decides}
+use mathlib.Core.Path.{sym, _∙_}
 use Rattle.records.specs.Records.{Records, table}
 use Rattle.records.specs.Sound.{Measured, Linked, Sound}
 use Rattle.tree.specs.Rules.{TreeSound}
-use Rattle.table.specs.Rules.{Marked, Fitting, TableSound}
+use Rattle.table.specs.Rules.{Fitting, TableSound}
 
 module _ (z : Records) where
   pub sound-of : Measured z → TreeSound (z .tree) → TableSound (z .tree) (table z) → Sound z
@@ -31,11 +26,3 @@ module _ (z : Records) where
   -- what the table's check asks
   pub fitting : Measured z → Linked (z .tree) → Fitting (z .tree) (table z)
   fitting m l = record { halves = m .rows ∙ sym (m .nodes); few = m .within .rows .1; linked = l }
-
--- the verdict on records, and the marks if it is good
-pub record Verdict (z : Records) (marks : List ℕ) (b : Bool) : Type 0 where
-  pub sound : Decides b (Sound z)
-  pub marked : b ≡ true → Marked (table z) marks (length (z .node))
-
-pub refused : (z : Records) (marks : List ℕ) → (Sound z → ⊥) → Verdict z marks false
-refused z marks f = record { sound = f; marked = λ x. absurd (false≢true x) }

@@ -1,16 +1,16 @@
 // Are the records sound? The seven rules of document 01, in its order, for any contents at all.
+ghost use lib.ListN.{length};
 ghost use Rattle.basics.specs.Decide.{Decides};
-ghost use Rattle.records.specs.Records.{recordsOf};
+ghost use Rattle.records.specs.Records.{recordsOf, table};
 ghost use Rattle.records.specs.Sound.{Sound};
-ghost use Rattle.table.specs.Rules.{Blank};
-ghost use Rattle.soundness.specs.Parts.{Verdict};
+ghost use Rattle.table.specs.Rules.{Blank, Verdict};
 use measures::Size;
 use records::Tree;
 
 // The seven rules, with marks that are all 0. If they are met, the marks are left for each node and row that an entry names.
 pub fn judged<'a>(size: Size, tree: Tree, node: &'a [u8], row: &'a [u16], marks: &mut [u8]) -> bool
     requires { ⌜ Blank (size .rows) (now marks) ⌝ }
-    ensures { λ b. ⌜ Verdict (recordsOf size tree (now (node .entry)) (now (row .entry))) (now (marks .exit)) b ⌝ }
+    ensures { λ b. ⌜ Verdict (Sound (recordsOf size tree (now (node .entry)) (now (row .entry)))) (table (recordsOf size tree (now (node .entry)) (now (row .entry)))) (length (now (node .entry))) (now (marks .exit)) b ⌝ }
 {
     if !measures::within(size) {
         return false;

@@ -16,7 +16,7 @@ use Rattle.records.specs.Records.{Table, InUse, Alive, up}
 use Rattle.records.specs.Reading.{Owns, Reads, origin, own}
 use Rattle.records.specs.Sound.{Linked, Excepting}
 use Rattle.tree.specs.Loops.{Climbing, climb-over, linked-reaches}
-use Rattle.table.specs.Rules.{ReadAt, slot, Marked, EntryFits, Entering, Entered, Meets, here, above, Met, Judging, Nodes, Blank}
+use Rattle.table.specs.Rules.{ReadAt, slot, Marked, EntryFits, Verdict, Entering, Meets, here, above, Met, Judging, Nodes, Blank}
 
 -- Marks
 
@@ -131,19 +131,19 @@ climb-ends t n node l u c = climb-over t n node (record { parents = λ m k. l .p
 
 -- One entry
 
+-- where the verdict is bad nobody reads the marks
+pub verdict-no : {P : Type 0} (e : Table) (i : ℕ) (marks : List ℕ) → (P → ⊥) → Verdict P e i marks false
+verdict-no e i marks h = record { decided = h; marked = λ x. absurd (false≢true x) }
+
 -- an exception that fits names a node in use and a row
 pub fits-named : (t : Tree) (e : Table) (n r i : ℕ) → n ≢ 0 → Owns e n r i → EntryFits t e i → InUse t n × (r < e .rows)
 fits-named t e n r i z o f = rw (← o .1, ← o .2) (f .named (λ x. z (sym (o .1) ∙ x)))
 
 module _ (t : Tree) (e : Table) (marks : List ℕ) (i : ℕ) where
-  -- an entry that does not fit leaves marks that nobody reads
-  pub entered-not : (EntryFits t e i → ⊥) → Entered t e i marks false
-  entered-not h = record { fits = h; marked = λ x. absurd (false≢true x) }
-
   -- a free place with row 0 fits
-  pub entered-free : at (e .node) i ≡ 0 → at (e .row) i ≡ 0 → Marked e marks i → Entered t e i marks true
+  pub entered-free : at (e .node) i ≡ 0 → at (e .row) i ≡ 0 → Marked e marks i → Verdict (EntryFits t e i) e (i + 1) marks true
   entered-free f g m = record {
-    fits = record { free = λ x. g; named = λ z. absurd (z f); once = λ j k z a b. z f };
+    decided = record { free = λ x. g; named = λ z. absurd (z f); once = λ j k z a b. z f };
     marked = λ x. marked-free e marks i f m;
   }
 
@@ -155,9 +155,9 @@ module _ (t : Tree) (e : Table) (marks : List ℕ) (i : ℕ) where
         unmarked e marks n r i z (u .0) l (h .marked) (λ j k p. f .once j k (λ y. z (sym (o .1) ∙ y)) (p .1 ∙ sym (o .1)) (p .2 ∙ sym (o .2)))
 
     -- an exception that names a node in use and a row, without a mark, fits and gets its mark
-    pub entered-new : InUse t n → r < e .rows → has marks (slot n r) ≡ false → Entered t e i (joined marks (slot n r)) true
+    pub entered-new : InUse t n → r < e .rows → has marks (slot n r) ≡ false → Verdict (EntryFits t e i) e (i + 1) (joined marks (slot n r)) true
     entered-new u l f = record {
-      fits = record {
+      decided = record {
         free = λ x. absurd (z (sym (o .1) ∙ x));
         named = λ x. rw (o .1, o .2) (u, l);
         once = λ j k x a b. false≢true (sym f ∙ h .marked .named n r j z (u .0) l k (omega (arith, o .0), a ∙ o .1, b ∙ o .2));

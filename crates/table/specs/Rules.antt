@@ -45,20 +45,16 @@ pub record EntryFits (t : Tree) (e : Table) (i : ℕ) : Type 0 where
   pub named : at (e .node) i ≢ 0 → InUse t (at (e .node) i) × (at (e .row) i < e .rows)
   pub once : (j : ℕ) → j < i → at (e .node) i ≢ 0 → at (e .node) j ≡ at (e .node) i → at (e .row) j ≡ at (e .row) i → ⊥
 
--- before entry i is tested, and after it: the verdict, and the marks if it is good
+-- a verdict on P, and if it is good, the marks of the entries below i
+pub record Verdict (P : Type 0) (e : Table) (i : ℕ) (marks : List ℕ) (b : Bool) : Type 0 where
+  pub decided : Decides b P
+  pub marked : b ≡ true → Marked e marks i
+
+-- before entry i is tested
 pub record Entering (e : Table) (marks : List ℕ) (i : ℕ) : Type 0 where
   pub halves : length (e .row) ≡ length (e .node)
   pub few : e .rows ≤ 1024
   pub marked : Marked e marks i
-
-pub record Entered (t : Tree) (e : Table) (i : ℕ) (marks : List ℕ) (b : Bool) : Type 0 where
-  pub fits : Decides b (EntryFits t e i)
-  pub marked : b ≡ true → Marked e marks (i + 1)
-
--- after all entries
-pub record Entries (t : Tree) (e : Table) (marks : List ℕ) (b : Bool) : Type 0 where
-  pub fits : Decides b (Excepting t e)
-  pub marked : b ≡ true → Marked e marks (length (e .node))
 
 -- going up from n, the first node that is g or marked at row r is g
 pub data Meets (t : Tree) (marks : List ℕ) (r g : ℕ) : ℕ → Type 0 where
@@ -94,11 +90,6 @@ pub record Judging (t : Tree) (e : Table) (marks : List ℕ) : Type 0 where
   pub fitting : Fitting t e
   pub excepting : Excepting t e
   pub marked : Marked e marks (length (e .node))
-
--- the verdict on rules 6 and 7, and the marks if it is good
-pub record Verdict (t : Tree) (e : Table) (marks : List ℕ) (b : Bool) : Type 0 where
-  pub sound : Decides b (TableSound t e)
-  pub marked : b ≡ true → Marked e marks (length (e .node))
 
 -- rule 7 at entry i: if it is an exception, it is read by some living version
 abbrev pub ReadAt : Tree → Table → ℕ → Type 0

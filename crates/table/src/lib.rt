@@ -1,11 +1,11 @@
 // The table's rules, document 01's sixth and seventh, in one pass each, with a mark for each node and row that an entry names.
 ghost use mathlib.Core.Path.{_≡_};
-ghost use Prim.Native.Nat.{_<_};
+ghost use Prim.Native.Nat.{_+_, _<_};
 ghost use lib.ListN.{length};
 ghost use Rattle.basics.specs.Decide.{Decides};
 ghost use Rattle.records.specs.Records.{treeOf, tableOf};
-ghost use Rattle.records.specs.Sound.{Linked, AllRead};
-ghost use Rattle.table.specs.Rules.{Fitting, Entering, Entered, Entries, MarkedRow, Seeking, Seeker, Nodes, Meets, Met, Judging, ReadAt, Blank, Verdict};
+ghost use Rattle.records.specs.Sound.{Linked, Excepting, AllRead};
+ghost use Rattle.table.specs.Rules.{Fitting, Entering, MarkedRow, Seeking, Seeker, Nodes, Meets, Met, Judging, ReadAt, Blank, Verdict, EntryFits, TableSound};
 
 // A byte as an index, and a 16-bit number.
 fn wide(x: u8) -> usize
@@ -32,7 +32,7 @@ fn enter<'a>(
     marks: &mut [u8],
 ) -> bool
     requires { ⌜ (i < length (now node)) × Entering (tableOf rows (now node) (now row)) (now marks) i ⌝ }
-    ensures { λ r. ⌜ Entered (treeOf (now (state .entry)) (now (tag .entry)) (now (parent .entry))) (tableOf rows (now (node .entry)) (now (row .entry))) i (now (marks .exit)) r ⌝ }
+    ensures { λ r. ⌜ Verdict (EntryFits (treeOf (now (state .entry)) (now (tag .entry)) (now (parent .entry))) (tableOf rows (now (node .entry)) (now (row .entry))) i) (tableOf rows (now (node .entry)) (now (row .entry))) (i + 1) (now (marks .exit)) r ⌝ }
 {
     let n = wide(node[i]);
     let r = wide16(row[i]);
@@ -70,7 +70,7 @@ fn entries<'a>(
     marks: &mut [u8],
 ) -> bool
     requires { ⌜ Entering (tableOf rows (now node) (now row)) (now marks) 0 ⌝ }
-    ensures { λ r. ⌜ Entries (treeOf (now (state .entry)) (now (tag .entry)) (now (parent .entry))) (tableOf rows (now (node .entry)) (now (row .entry))) (now (marks .exit)) r ⌝ }
+    ensures { λ r. ⌜ Verdict (Excepting (treeOf (now (state .entry)) (now (tag .entry)) (now (parent .entry))) (tableOf rows (now (node .entry)) (now (row .entry)))) (tableOf rows (now (node .entry)) (now (row .entry))) (length (now (node .entry))) (now (marks .exit)) r ⌝ }
 {
     let mut i: usize = 0;
     while i < node.len() {
@@ -300,7 +300,7 @@ pub fn judged<'a>(
     marks: &mut [u8],
 ) -> bool
     requires { ⌜ Fitting (treeOf (now state) (now tag) (now parent)) (tableOf rows (now node) (now row)) × Blank rows (now marks) ⌝ }
-    ensures { λ b. ⌜ Verdict (treeOf (now (state .entry)) (now (tag .entry)) (now (parent .entry))) (tableOf rows (now (node .entry)) (now (row .entry))) (now (marks .exit)) b ⌝ }
+    ensures { λ b. ⌜ Verdict (TableSound (treeOf (now (state .entry)) (now (tag .entry)) (now (parent .entry))) (tableOf rows (now (node .entry)) (now (row .entry)))) (tableOf rows (now (node .entry)) (now (row .entry))) (length (now (node .entry))) (now (marks .exit)) b ⌝ }
 {
     if !entries(state, tag, parent, rows, node, row, marks) {
         return false;

@@ -14,7 +14,7 @@ use Rattle.deleting.proofs.delete_marked.Statement.{statement}
 use Rattle.deleting.proofs.delete_marked.Tie as tie
 
 judged : (c : tie.Else1) → (let a = c .before .before .before .before .before .before .before .before .before .before .args in Sound (recordsOf (a .size) (a .t2) (a .node .now) (a .row .now)))
-judged c = let j = c .before .before .before .judged in passed (j .result) (j .ensures .sound) (c .if1 .left)
+judged c = let j = c .before .before .before .judged in passed (j .result) (j .ensures .decided) (c .if1 .left)
 
 -- where the version was found: the way there, and the version
 abbrev early : tie.After-known-told → tie.Else2
@@ -29,7 +29,7 @@ judged-requires : tie.Need-judged-requires
 judged-requires c κs = search needs
 
 returns : tie.Need-returns
-returns c = let j = c .before .before .before .judged in judged-unsound (failed (j .result) (j .ensures .sound) (c .if1 .taken)) (refl, refl)
+returns c = let j = c .before .before .before .judged in judged-unsound (failed (j .result) (j .ensures .decided) (c .if1 .taken)) (refl, refl)
 
 returns-2 : tie.Need-returns-2
 returns-2 c = judged-sound (judged (c .before)) (leaves-refused origin-tag (origin-refused _ _ (c .if2 .taken)))

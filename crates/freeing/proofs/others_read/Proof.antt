@@ -24,8 +24,7 @@ other-reads-requires c κs = (omega (arith, c .loop-test .taken), c .before .bef
 returns : tie.Need-returns Inv-loop μ-loop
 returns c =
     let o = c .before .other-reads in
-    let m = holds (o .result) (o .ensures) (c .if1 .taken) in
-    (c .before .before .before .loop .n, m .0, m .1, m .2)
+    (c .before .before .before .loop .n, holds (o .result) (o .ensures) (c .if1 .taken))
 
 add-n : tie.Need-add-n Inv-loop μ-loop
 add-n c = search needs
@@ -39,7 +38,7 @@ loop-again c =
     (omega arith, below-more _ _ (c .before .before .before .loop .inv .1) (fails (o .result) (o .ensures) (c .if1 .left)))
 
 returns-2 : tie.Need-returns-2 Inv-loop μ-loop
-returns-2 c = λ m. c .before .loop .inv .1 (m .0) (omega arith) (m .1, m .2, m .3)
+returns-2 c = λ m. c .before .loop .inv .1 (m .0) (omega (arith, m .1 .0 .0)) (m .1)
 
 pub others-read-spec : {M : Type 1} → statement M
 others-read-spec =

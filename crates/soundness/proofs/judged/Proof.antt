@@ -1,7 +1,8 @@
 -- `soundness::judged` meets its contract: the parts, one after the other. Assumes nothing.
 use borrow.Author.Needs.{needs}
 use borrow.Author.Tests.{not-false}
-use Rattle.soundness.specs.Parts.{sound-of, tree-of, table-of, fitting, refused}
+use Rattle.soundness.specs.Parts.{sound-of, tree-of, table-of, fitting}
+use Rattle.table.specs.Laws.{verdict-no}
 use Rattle.tree.specs.Rules.{TreeSound}
 use Rattle.records.specs.Sound.{Measured}
 use Rattle.records.specs.Records.{recordsOf}
@@ -25,25 +26,25 @@ within-requires : tie.Need-within-requires
 within-requires c κs = search needs
 
 returns : tie.Need-returns
-returns c = refused _ _ (λ s. failed (c .before .within .result) (c .before .within .ensures) (c .if1 .taken) (s .measured .within))
+returns c = verdict-no _ _ _ (λ s. failed (c .before .within .result) (c .before .within .ensures) (c .if1 .taken) (s .measured .within))
 
 sub-if2 : tie.Need-sub-if2
 sub-if2 c = sized (c .before) .places .0
 
 returns-2 : tie.Need-returns-2
-returns-2 c = refused _ _ (λ s. c .if2 .taken (s .measured .nodes))
+returns-2 c = verdict-no _ _ _ (λ s. c .if2 .taken (s .measured .nodes))
 
 sub-if3 : tie.Need-sub-if3
 sub-if3 c = sized (c .before .before .before) .places .0
 
 returns-3 : tie.Need-returns-3
-returns-3 c = refused _ _ (λ s. c .if3 .taken (s .measured .rows))
+returns-3 c = verdict-no _ _ _ (λ s. c .if3 .taken (s .measured .rows))
 
 sound-requires : tie.Need-sound-requires
 sound-requires c κs = search needs
 
 returns-4 : tie.Need-returns-4
-returns-4 c = refused _ _ (λ s. failed (c .before .sound .result) (c .before .sound .ensures) (c .if4 .taken) (tree-of _ s))
+returns-4 c = verdict-no _ _ _ (λ s. failed (c .before .sound .result) (c .before .sound .ensures) (c .if4 .taken) (tree-of _ s))
 
 judged-requires : tie.Need-judged-requires
 judged-requires c κs =
@@ -56,7 +57,7 @@ same-length c = search needs
 returns-5 : tie.Need-returns-5
 returns-5 c =
     let j = c .before .before .before .judged in
-    refused _ _ (λ s. failed (j .result) (j .ensures .sound) (c .if5 .taken) (table-of _ s))
+    verdict-no _ _ _ (λ s. failed (j .result) (j .ensures .decided) (c .if5 .taken) (table-of _ s))
 
 same-length-2 : tie.Need-same-length-2
 same-length-2 c = search needs
@@ -66,7 +67,7 @@ returns-6 c =
     let j = c .before .before .before in
     let t = j .before .before .before .before .before .before in
     record {
-      sound = sound-of _ (measured (t .before .before .before .before .before .before)) (grown t) (passed (j .judged .result) (j .judged .ensures .sound) (c .if5 .left));
+      decided = sound-of _ (measured (t .before .before .before .before .before .before)) (grown t) (passed (j .judged .result) (j .judged .ensures .decided) (c .if5 .left));
       marked = λ x. j .judged .ensures .marked (not-false _ (c .if5 .left));
     }
 

@@ -5,7 +5,7 @@ use mathlib.Core.Bool.{false≢true}
 use native.Mathlib.Omega.{arith}
 use Rattle.records.specs.Records.{tableOf}
 use Rattle.records.specs.Reading.{Owns}
-use Rattle.table.specs.Laws.{entered-not, entered-free, entered-new, fits-named, fits-unmarked}
+use Rattle.table.specs.Laws.{verdict-no, entered-free, entered-new, fits-named, fits-unmarked}
 use Rattle.table.proofs.enter.Statement.{statement}
 use Rattle.table.proofs.enter.Tie as tie
 
@@ -46,7 +46,7 @@ returns-2 c =
     let r = c .before .before in
     let w = r .before .before in
     let s = w .before .before .before .before .before in
-    entered-not _ _ (s .args .marks .now) _ (λ f. c .if2 .left (r .wide16 .ensures ∙ f .free (sym (w .wide .ensures) ∙ c .before .if1 .taken)))
+    verdict-no _ _ (s .args .marks .now) (λ f. c .if2 .left (r .wide16 .ensures ∙ f .free (sym (w .wide .ensures) ∙ c .before .if1 .taken)))
 
 returns-3 : tie.Need-returns-3
 returns-3 c =
@@ -55,7 +55,7 @@ returns-3 c =
     let w = r .before .before in
     let s = w .before .before .before .before .before in
     let m = s .args .marks .now in
-    entered-not _ _ m _ (λ f. omega (arith, fits-named _ _ _ _ _ (x .if1 .left) (own-row r) f .0 .0, c .if3 .taken))
+    verdict-no _ _ m (λ f. omega (arith, fits-named _ _ _ _ _ (x .if1 .left) (own-row r) f .0 .0, c .if3 .taken))
 
 element-copy-out-if4 : tie.Need-element-copy-out-if4
 element-copy-out-if4 c = search needs
@@ -67,7 +67,7 @@ returns-4 c =
     let w = r .before .before in
     let s = w .before .before .before .before .before in
     let m = s .args .marks .now in
-    entered-not _ _ m _ (λ f. fits-named _ _ _ _ _ (x .if1 .left) (own-row r) f .0 .1 (c .if4 .taken))
+    verdict-no _ _ m (λ f. fits-named _ _ _ _ _ (x .if1 .left) (own-row r) f .0 .1 (c .if4 .taken))
 
 returns-5 : tie.Need-returns-5
 returns-5 c =
@@ -76,7 +76,7 @@ returns-5 c =
     let w = r .before .before in
     let s = w .before .before .before .before .before in
     let m = s .args .marks .now in
-    entered-not _ _ m _ (λ f. omega (arith, fits-named _ _ _ _ _ (x .if1 .left) (own-row r) f .1, c .if5 .taken))
+    verdict-no _ _ m (λ f. omega (arith, fits-named _ _ _ _ _ (x .if1 .left) (own-row r) f .1, c .if5 .taken))
 
 mul-k : tie.Need-mul-k
 mul-k c = search needs
@@ -100,7 +100,7 @@ returns-6 c =
     let w = r .before .before in
     let s = w .before .before .before .before .before in
     let m = s .args .marks .now in
-    entered-not _ _ m _ (λ f. false≢true (sym (fits-unmarked _ _ m _ (s .pre .1) _ _ (x .if1 .left) (own-row r) f) ∙ sym (c .before .has .ensures) ∙ c .if6 .taken))
+    verdict-no _ _ m (λ f. false≢true (sym (fits-unmarked _ _ m _ (s .pre .1) _ _ (x .if1 .left) (own-row r) f) ∙ sym (c .before .has .ensures) ∙ c .if6 .taken))
 
 join-requires : tie.Need-join-requires
 join-requires c κs =

@@ -36,7 +36,7 @@ returns : tie.Need-returns Inv-loop μ-loop
 returns c =
     let n = c .before .before .before in
     record {
-      fits = λ x. failed (n .enter .result) (n .enter .ensures .fits) (c .if1 .taken) (excepting-entry _ _ x _ (n .before .before .loop-test .taken));
+      decided = λ x. failed (n .enter .result) (n .enter .ensures .decided) (c .if1 .taken) (excepting-entry _ _ x _ (n .before .before .loop-test .taken));
       marked = λ x. absurd (false≢true x);
     }
 
@@ -50,7 +50,7 @@ loop-again : tie.Need-loop-again Inv-loop μ-loop
 loop-again c =
     let n = c .before .before .before .enter in
     let v = c .before .before .before .before .before .before .loop .inv in
-    (omega arith, c .before .before .marks .given ∙ v .1, n .ensures .marked (not-false _ (c .if1 .left)), below-more _ _ (v .3) (passed (n .result) (n .ensures .fits) (c .if1 .left)))
+    (omega arith, c .before .before .marks .given ∙ v .1, n .ensures .marked (not-false _ (c .if1 .left)), below-more _ _ (v .3) (passed (n .result) (n .ensures .decided) (c .if1 .left)))
 
 same-length-2 : tie.Need-same-length-2 Inv-loop μ-loop
 same-length-2 c = c .before .loop .inv .1
@@ -61,7 +61,7 @@ returns-2 c =
     let a = l .before .before .before .before .args in
     let e : l .loop .i ≡ length (a .node .now) = omega arith in
     let h = rw e at (l .loop .inv) in
-    record { fits = excepting-all _ _ (h .3); marked = λ x. h .2 }
+    record { decided = excepting-all _ _ (h .3); marked = λ x. h .2 }
 
 pub entries-spec : {M : Type 1} → statement M
 entries-spec =

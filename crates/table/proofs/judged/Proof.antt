@@ -18,7 +18,7 @@ same-length c = search needs
 returns : tie.Need-returns
 returns c =
     let n = c .before .before .before .entries in
-    record { sound = λ s. failed (n .result) (n .ensures .fits) (c .if1 .taken) (s .excepting); marked = λ x. absurd (false≢true x) }
+    record { decided = λ s. failed (n .result) (n .ensures .decided) (c .if1 .taken) (s .excepting); marked = λ x. absurd (false≢true x) }
 
 kin-requires : tie.Need-kin-requires
 kin-requires c κs = c .before .before .before .before .before .before .before .before .pre .0 .linked
@@ -33,7 +33,7 @@ all-read-requires c κs =
       k .kin .ensures .1,
       record {
         fitting = m .before .before .before .before .before .pre .0;
-        excepting = passed (n .result) (n .ensures .fits) (i .if1 .left);
+        excepting = passed (n .result) (n .ensures .decided) (i .if1 .left);
         marked = n .ensures .marked (not-false _ (i .if1 .left));
       },
     )
@@ -43,7 +43,7 @@ same-length-2 c = search needs
 
 returns-2 : tie.Need-returns-2
 returns-2 c = record {
-  sound = λ s. failed (c .before .all-read .result) (c .before .all-read .ensures) (c .if2 .taken) (s .allRead);
+  decided = λ s. failed (c .before .all-read .result) (c .before .all-read .ensures) (c .if2 .taken) (s .allRead);
   marked = λ x. absurd (false≢true x);
 }
 
@@ -55,8 +55,8 @@ returns-3 c =
     let i = c .before .before .before .before .before .before .before in
     let n = i .before .before .before .entries in
     record {
-      sound = record {
-        excepting = passed (n .result) (n .ensures .fits) (i .if1 .left);
+      decided = record {
+        excepting = passed (n .result) (n .ensures .decided) (i .if1 .left);
         allRead = passed (c .before .all-read .result) (c .before .all-read .ensures) (c .if2 .left);
       };
       marked = λ x. n .ensures .marked (not-false _ (i .if1 .left));
