@@ -8,8 +8,10 @@ use Prim.Native.Nat.{ℕ, _<_}
 use lib.Dec.{eqb}
 use lib.ListN.{replicate}
 use Rattle.measures.specs.declared.Size.{Size}
-use Rattle.model.specs.Call.{Call, snapshot, read, write, delete, count, Refusal, Answer, refused}
-use Rattle.model.specs.Model.{Cell, Model, alive, shared, refusal, tests, accepted, unless, adopt, put, without}
+use Rattle.model.specs.Call.{Call, snapshot, read, write, delete, count}
+use Rattle.answers.specs.Answers.{Refusal, Answer, refused}
+use Rattle.model.specs.Model.{Cell, Model, alive, shared, tests, accepted, adopt, put, without}
+use Rattle.answers.specs.Tests.{refusal, unless}
 
 -- which snapshots live; the place from which a living version's row is read; the bytes of each place
 pub record Map : Type 0 where

@@ -5,8 +5,10 @@ use mathlib.Core.List.{List, _∷_}
 use mathlib.Core.Option.{Option, none, some}
 use Prim.Native.Nat.{ℕ, _<_}
 use Rattle.measures.specs.declared.Size.{Size}
-use Rattle.model.specs.Call.{Call, snapshot, read, write, delete, count, Refusal, Answer}
-use Rattle.model.specs.Model.{Cell, Model, placesUsed, unless, effect, opened, verdict, answer, after, answers, final}
+use Rattle.model.specs.Call.{Call, snapshot, read, write, delete, count}
+use Rattle.answers.specs.Answers.{Refusal, Answer}
+use Rattle.model.specs.Model.{Cell, Model, placesUsed, effect, opened, verdict, answer, after, answers, final}
+use Rattle.answers.specs.Tests.{unless}
 use Rattle.agreement.specs.Agree.{Map, Live, firstMap, Alike, Effect, Step, Runs, done, next, Agree}
 use Rattle.agreement.specs.Verdicts.{snapshot-passed, write-passed, delete-passed, used-same, verdict-same, answer-same}
 use Rattle.agreement.specs.Keeping.{alike-keeps, snapshot-keeps, delete-keeps}

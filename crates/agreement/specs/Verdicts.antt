@@ -9,8 +9,10 @@ use native.Mathlib.Omega.{arith}
 use lib.Dec.{leb}
 use borrow.Author.Tests.{eqb-false, leb-false, not-false}
 use Rattle.measures.specs.declared.Size.{Size}
-use Rattle.model.specs.Call.{Call, snapshot, read, write, delete, count, Refusal, places-full, row, counts, refused}
-use Rattle.model.specs.Model.{Cell, Model, alive, placesUsed, snapshotsAlive, Tests, orElse, refusal, tests, accepted, unless, verdict, answer}
+use Rattle.model.specs.Call.{Call, snapshot, read, write, delete, count}
+use Rattle.answers.specs.Answers.{Refusal, places-full, row, counts, refused}
+use Rattle.model.specs.Model.{Cell, Model, alive, placesUsed, snapshotsAlive, tests, accepted, verdict, answer}
+use Rattle.answers.specs.Tests.{Tests, orElse, refusal, unless}
 use Rattle.agreement.specs.Agree.{Map, Live, mapVerdict, mapAnswer, Agree}
 use Rattle.agreement.specs.Counting.{used-tags, snapshots-tags, shared-tags, used-pattern, shared-pattern}
 

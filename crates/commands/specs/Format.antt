@@ -7,6 +7,8 @@ use lib.Dec.{eqb, leb, ltb}
 use lib.ListN.{length, take, drop}
 use Rattle.basics.specs.Decide.{at}
 use Rattle.laying.specs.Laid.{pairAt}
+use Rattle.answers.specs.Answers.{Refusal, unknown-command, cut-command}
+use Rattle.answers.specs.Tests.{verdictNumber}
 use Rattle.model.specs.Call.{Call, snapshot, read, write, delete, count}
 use Rattle.commands.specs.declared.Command.{Command}
 use Rattle.commands.specs.declared.Command.the-variants.{Over, Unknown, Cut, Snapshot, Read, Write, Delete, Count}
@@ -31,8 +33,20 @@ commandOf s p kind =
     (cond (eqb kind 4) (Delete (pairAt s (p + 1)))
     Count)))
 
+-- the refusal with which a stream ends there: an unknown kind, or a command that is cut
+abbrev pub refusalOf : Command → Option Refusal
+refusalOf Over = none
+refusalOf Unknown = some unknown-command
+refusalOf Cut = some cut-command
+refusalOf (Snapshot source tag) = none
+refusalOf (Read tag row) = none
+refusalOf (Write tag row) = none
+refusalOf (Delete tag) = none
+refusalOf Count = none
+
+-- a command, the position behind it, and the number of that refusal, 0 if there is none
 abbrev pub stand : Command → ℕ → Step
-stand c next = record { command = c; next = next }
+stand c next = record { command = c; next = next; number = verdictNumber (refusalOf c) }
 
 -- what stands at p, and the position behind it: nothing more; else an unknown kind; else a command that is cut; else a whole one
 unfoldable pub stepAt : ℕ → List ℕ → ℕ → Step

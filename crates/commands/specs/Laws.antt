@@ -1,22 +1,23 @@
 -- Laws of the commands' format: how long a command is, and so where its operands lie. Assumes nothing.
 use mathlib.Core.Path.{_≡_, refl, sym, _∙_, ap}
-use mathlib.Core.Bool.{Bool, true, false, cond}
+use mathlib.Core.Bool.{Bool, true, false, cond, false≢true}
 use mathlib.Core.Logic.{_≢_, by-cases}
-use mathlib.Core.Option.{Option, none, some}
+use mathlib.Core.Option.{none, some}
 use mathlib.Core.List.{List}
 use Prim.Native.Nat.{ℕ, _+_, _-_, _≤_, _<_}
 use native.Mathlib.Decide.{ℕ-discrete, decLe, decLt}
 use native.Mathlib.Omega.{arith}
 use borrow.Author.Tests.{eqb-true, eq-eqb, ne-eqb, le-leb, lt-leb, lt-ltb, le-ltb}
-use lib.Dec.{eqb}
+use lib.Dec.{eqb, leb, ltb}
 use lib.ListN.{length}
-use Rattle.basics.specs.Decide.{at, Decides, decides-iff, decides-eqb}
+use Rattle.basics.specs.Decide.{at}
 use Rattle.laying.specs.Laid.{pairAt}
+use Rattle.answers.specs.Tests.{verdictNumber}
 use Rattle.model.specs.Call.{Call, write}
 use Rattle.commands.specs.declared.Command.{Command}
 use Rattle.commands.specs.declared.Step.{Step}
 use Rattle.commands.specs.declared.Command.the-variants.{Over, Unknown, Cut, Snapshot, Read, Write, Delete, Count}
-use Rattle.commands.specs.Format.{sizeOf, commandOf, stepAt, stand, callAt, rowAt, Reading}
+use Rattle.commands.specs.Format.{sizeOf, commandOf, refusalOf, stepAt, stand, callAt, rowAt, Reading}
 
 size-two : (width kind : ℕ) → 1 ≤ kind → kind ≤ 3 → 5 ≤ sizeOf width kind
 unfolding sizeOf
@@ -51,13 +52,24 @@ kindOf (Write tag row) = 3
 kindOf (Delete tag) = 4
 kindOf Count = 5
 
+-- something stands there
+abbrev pub stands : Command → Bool
+stands Over = false
+stands Unknown = true
+stands Cut = true
+stands (Snapshot source tag) = true
+stands (Read tag row) = true
+stands (Write tag row) = true
+stands (Delete tag) = true
+stands Count = true
+
 -- What stands at a position, by its tests
 
 none-some : {A : Type 0} {x : A} → none ≡ some x → ⊥
 none-some e = let z : _≡_ {A = ℕ} 0 1 = cc in absurd (omega arith)
 
 module _ (width : ℕ) (s : List ℕ) (p : ℕ) where
-  step-over : length s ≤ p → stepAt width s p ≡ stand Over p
+  pub step-over : length s ≤ p → stepAt width s p ≡ stand Over p
   unfolding stepAt
   step-over l = rw (le-leb (length s) p l)
 
@@ -94,6 +106,27 @@ module _ (width : ℕ) (s : List ℕ) (p : ℕ) where
   pub call-next : {c : Call} → callAt width s p (stepAt width s p .command) ≡ some c → p < stepAt width s p .next
   call-next e = let r = call-whole e in rw (step-whole r) (omega (arith, r .known))
 
+  -- and not behind the end
+  pub call-inside : {c : Call} → callAt width s p (stepAt width s p .command) ≡ some c → stepAt width s p .next ≤ length s
+  call-inside e = let r = call-whole e in rw (step-whole r) (r .whole)
+
+  -- something stands only before the end
+  pub not-over : {d : Command} → stepAt width s p .command ≡ d → stands d ≡ true → p < length s
+  not-over e f = by-cases (decLe (length s) p)
+      (λ l. absurd (false≢true (ap (λ (x : Step). stands (x .command)) (sym (step-over l)) ∙ ap stands e ∙ f)))
+      (λ l. omega arith)
+
+  -- the number is that of what stands there
+  pub step-number : stepAt width s p .number ≡ verdictNumber (refusalOf (stepAt width s p .command))
+  unfolding stepAt
+  step-number = go (leb (length s) p) (eqb (sizeOf width (at s p)) 0) (ltb (length s - p) (sizeOf width (at s p)))
+    where
+      go : (a b c : Bool) → (let x = cond a (stand Over p) (cond b (stand Unknown p) (cond c (stand Cut p) (stand (commandOf s p (at s p)) (p + sizeOf width (at s p))))) in x .number ≡ verdictNumber (refusalOf (x .command)))
+      go true b c = refl
+      go false true c = refl
+      go false false true = refl
+      go false false false = refl
+
   -- what holds of each command of a known kind
   of-known : (P : Command → Type 0) (kind : ℕ) → ((a b : ℕ) → P (Snapshot a b)) → ((a b : ℕ) → P (Read a b)) → (kind ≡ 3 → (a b : ℕ) → P (Write a b)) → ((a : ℕ) → P (Delete a)) → P Count → P (commandOf s p kind)
   unfolding commandOf
@@ -105,6 +138,10 @@ module _ (width : ℕ) (s : List ℕ) (p : ℕ) where
       go false false true d t = h (t refl) _ _
       go false false false true t = k _
       go false false false false t = l
+
+  -- and its number is 0
+  pub known-number : (kind : ℕ) → verdictNumber (refusalOf (commandOf s p kind)) ≡ 0
+  known-number kind = of-known (λ c. verdictNumber (refusalOf c) ≡ 0) kind (λ a b. refl) (λ a b. refl) (λ t a b. refl) (λ a. refl) refl
 
   -- only a write has the kind 3
   kind-three : (kind : ℕ) → kindOf (commandOf s p kind) ≡ 3 → kind ≡ 3
@@ -118,25 +155,3 @@ module _ (width : ℕ) (s : List ℕ) (p : ℕ) where
       let c : commandOf s p (at s p) ≡ Write tag row = sym (ap (λ (x : Step). x .command) (step-whole r)) ∙ e in
       let k = kind-three (at s p) (rw c) in
       omega (arith, r .whole, size-three width (at s p) k)
-
-  -- a command of a known kind makes a call
-  known-calls : (kind : ℕ) → callAt width s p (commandOf s p kind) ≡ none → ⊥
-  known-calls kind = of-known (λ c. callAt width s p c ≡ none → ⊥) kind (λ a b e. none-some (sym e)) (λ a b e. none-some (sym e)) (λ t a b e. none-some (sym e)) (λ a e. none-some (sym e)) (λ e. none-some (sym e))
-
-  -- where no call is made, the next position is this one
-  no-call-stays : callAt width s p (stepAt width s p .command) ≡ none → stepAt width s p .next ≡ p
-  no-call-stays e = by-cases (decLe (length s) p)
-      (λ l. rw (step-over l))
-      (λ l. by-cases (ℕ-discrete (sizeOf width (at s p)) 0)
-      (λ f. rw (step-unknown (omega arith) f))
-      (λ f. by-cases (decLt (length s - p) (sizeOf width (at s p)))
-      (λ g. rw (step-cut (omega arith) f g))
-      (λ g. let w = step-whole (record { inside = omega arith; known = omega arith; whole = omega arith }) in absurd (known-calls (at s p) (sym (ap (λ (x : Step). callAt width s p (x .command)) w) ∙ e)))))
-
-  -- and only there
-  pub ends-stay : Decides (eqb (stepAt width s p .next) p) (callAt width s p (stepAt width s p .command) ≡ none)
-  ends-stay = decides-iff (eqb (stepAt width s p .next) p) (go (callAt width s p (stepAt width s p .command)) refl, no-call-stays) (decides-eqb (stepAt width s p .next) p)
-    where
-      go : (c : Option Call) → callAt width s p (stepAt width s p .command) ≡ c → stepAt width s p .next ≡ p → callAt width s p (stepAt width s p .command) ≡ none
-      go none f e = f
-      go (some c) f e = absurd (omega (arith, call-next f, e))

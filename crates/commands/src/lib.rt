@@ -1,10 +1,9 @@
 // Commands in a stream of bytes: a byte says the kind, and operands of two bytes follow, the high one first.
 //     1 snapshot: source tag, new tag    2 read: tag, row    3 write: tag, row, the row's bytes    4 delete: tag    5 count
 ghost use mathlib.Core.Path.{_≡_};
-ghost use mathlib.Core.Option.{none};
 ghost use Prim.Native.Nat.{_+_, _≤_, _<_};
-ghost use Rattle.basics.specs.Decide.{at, Decides};
-ghost use Rattle.commands.specs.Format.{sizeOf, commandOf, stepAt, callAt, Reading};
+ghost use Rattle.basics.specs.Decide.{at};
+ghost use Rattle.commands.specs.Format.{sizeOf, commandOf, stepAt, Reading};
 
 // What stands at a position. A write's bytes follow its two operands in the stream.
 pub enum Command {
@@ -18,10 +17,11 @@ pub enum Command {
     Count,
 }
 
-// A command, and the position behind it.
+// A command, the position behind it, and the number of the refusal with which the stream ends there, else 0.
 pub struct Step {
     pub command: Command,
     pub next: usize,
+    pub number: u8,
 }
 
 // How many bytes a command has, where a row has `width`; 0 if the kind is unknown.
@@ -84,6 +84,7 @@ fn next(stream: &[u8], p: usize, width: usize) -> Step
         return Step {
             command: Command::Over,
             next: p,
+            number: 0,
         };
     }
     let n = size_of(width, stream[p]);
@@ -91,36 +92,21 @@ fn next(stream: &[u8], p: usize, width: usize) -> Step
         return Step {
             command: Command::Unknown,
             next: p,
+            number: 6,
         };
     }
     if stream.len() - p < n {
         return Step {
             command: Command::Cut,
             next: p,
+            number: 7,
         };
     }
     Step {
         command: command_of(stream, p, width),
         next: p + n,
+        number: 0,
     }
-}
-
-// The position behind the command at p, which is p where the stream ends there.
-fn behind(stream: &[u8], p: usize, width: usize) -> usize
-    requires { ⌜ width ≤ 1024 ⌝ }
-    ensures { λ n. ⌜ n ≡ stepAt width (now (stream .entry)) p .next ⌝ }
-{
-    let found = next(stream, p, width);
-    found.next
-}
-
-// Does the stream end at p: with nothing, an unknown kind or a command that is cut? A whole command has a byte at least.
-fn ends_at(stream: &[u8], p: usize, width: usize) -> bool
-    requires { ⌜ width ≤ 1024 ⌝ }
-    ensures { λ b. ⌜ Decides b (callAt width (now (stream .entry)) p (stepAt width (now (stream .entry)) p .command) ≡ none) ⌝ }
-{
-    let step = next(stream, p, width);
-    step.next == p
 }
 
 // A stream, and the position of its next command.
@@ -152,32 +138,4 @@ pub fn command_here<'a>(reader: Reader<'a>, width: usize) -> Step
     ensures { λ s. ⌜ s ≡ stepAt width (now (reader .entry .stream)) (reader .entry .at) ⌝ }
 {
     next(reader.stream, reader.at, width)
-}
-
-// Does the stream end here: with nothing, an unknown kind or a command that is cut?
-pub fn is_over<'a>(reader: Reader<'a>, width: usize) -> bool
-    requires { ⌜ width ≤ 1024 ⌝ }
-    ensures { λ b. ⌜ Decides b (callAt width (now (reader .entry .stream)) (reader .entry .at) (stepAt width (now (reader .entry .stream)) (reader .entry .at) .command) ≡ none) ⌝ }
-{
-    ends_at(reader.stream, reader.at, width)
-}
-
-// The reader behind its next command.
-pub fn passed<'a>(reader: Reader<'a>, width: usize) -> Reader<'a>
-    requires { ⌜ width ≤ 1024 ⌝ }
-    ensures { λ r. ⌜ (r .stream ≡ reader .entry .stream) × (r .at ≡ stepAt width (now (reader .entry .stream)) (reader .entry .at) .next) ⌝ }
-{
-    let at = behind(reader.stream, reader.at, width);
-    Reader {
-        stream: reader.stream,
-        at,
-    }
-}
-
-// The command at a position of a stream, read through a reader: who calls this needs no walk.
-pub fn command_at(stream: &[u8], p: usize, width: usize) -> Step
-    requires { ⌜ width ≤ 1024 ⌝ }
-    ensures { λ s. ⌜ s ≡ stepAt width (now (stream .entry)) p ⌝ }
-{
-    command_here(moved(make(stream), p), width)
 }

@@ -10,8 +10,8 @@ use Rattle.records.specs.declared.Tree.{Tree}
 use Rattle.records.specs.Records.{Records, table, Snapshot, up, children, version}
 use Rattle.records.specs.Reading.{lives}
 use Rattle.records.specs.Sound.{Sound}
-use Rattle.model.specs.Call.{Refusal, origin-tag, unknown-tag, unsound, number}
-use Rattle.model.specs.Model.{Tests, refusal}
+use Rattle.answers.specs.Answers.{Refusal, origin-tag, unknown-tag, unsound, number}
+use Rattle.answers.specs.Tests.{Tests, refusal}
 use Rattle.soundness.specs.Judged.{Judged, Leaves}
 use Rattle.nodes.specs.Nodes.{firstChild}
 use Rattle.removal.specs.Removal.{ghosted, emptied, spliced, freedList, relabelled}

@@ -14,8 +14,8 @@ use Rattle.records.specs.declared.Tree.{Tree}
 use Rattle.records.specs.Records.{Records, table, InUse, up, children, version}
 use Rattle.records.specs.Reading.{lives}
 use Rattle.records.specs.Sound.{Sound}
-use Rattle.model.specs.Call.{origin-tag, unknown-tag}
-use Rattle.model.specs.Tests.{refusal-here, refusal-next, refusal-none}
+use Rattle.answers.specs.Answers.{origin-tag, unknown-tag}
+use Rattle.answers.specs.Laws.{refusal-here, refusal-next, refusal-none}
 use Rattle.tree.specs.Nodes.{version-alive}
 use Rattle.nodes.specs.Nodes.{firstChild}
 use Rattle.removal.specs.Removal.{ghosted, emptied, spliced, relabelled}

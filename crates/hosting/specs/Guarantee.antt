@@ -1,23 +1,28 @@
 -- THE GUARANTEE for a host in C: any list of calls on lent bytes answers as the reference model, and leaves bytes of what the model has.
 -- Each call loads the records that the bytes are, and what it stores is loaded again as it was. Assumes nothing.
-use mathlib.Core.Path.{_≡_, refl, sym, ap}
+use mathlib.Core.Path.{_≡_, refl, sym, _∙_, ap, ap₂}
+use mathlib.Core.Logic.{_≢_, by-cases}
 use mathlib.Core.Bool.{Bool, true, false, not}
 use mathlib.Core.List.{List, [], _∷_, map}
 use mathlib.Core.Option.{Option, none, some}
 use Prim.Native.Nat.{ℕ, _+_, _*_, _≤_}
+use native.Mathlib.Decide.{ℕ-discrete}
 use native.Mathlib.Omega.{arith}
 use lib.Dec.{eqb, leb}
 use lib.ListN.{length, drop, replicate, length-replicate, length-drop}
 use lib.Seq.{length-take-le}
 use borrow.Author.Tests.{eq-eqb, ne-eqb, eqb-true, not-false}
+use Rattle.basics.specs.Decide.{not-yes, not-no}
 use Rattle.measures.specs.declared.Size.{Size}
 use Rattle.measures.specs.Measures.{Within}
-use Rattle.records.specs.declared.Tree.{Tree}
 use Rattle.records.specs.Records.{Records, recordsOf}
 use Rattle.records.specs.Reading.{lives}
-use Rattle.model.specs.Call.{Call, Refusal, bad-size, bad-length, bad-row, unknown-tag, row, refused, number}
-use Rattle.model.specs.Model.{Model, opened, answers, final, refusal, unless, inMeasure}
-use Rattle.model.specs.Tests.{refusal-passed, measure-in}
+use Rattle.model.specs.Call.{Call}
+use Rattle.model.specs.Call as on-records
+use Rattle.answers.specs.Answers.{Refusal, bad-size, bad-length, bad-row, unknown-tag, row, refused, number}
+use Rattle.model.specs.Model.{Model, tests, opened, verdict, answer, after}
+use Rattle.answers.specs.Tests.{refusal, unless, inMeasure}
+use Rattle.answers.specs.Laws.{refusal-here, refusal-next, refusal-passed, unless-made, measure-in, number-some}
 use Rattle.soundness.specs.Judged.{Leaves, judged-sound}
 use Rattle.edits.specs.Edits.{Whole, withTree}
 use Rattle.queries.specs.Queries.{Hands, readAnswer, rowOfTag}
@@ -30,15 +35,15 @@ use Rattle.view.specs.View.{Store, started}
 use Rattle.view.specs.Starts.{open-agrees}
 use Rattle.steps.specs.Begins.{start-call}
 use Rattle.steps.specs.Calls.{Runs, snapshot-call, write-call, delete-call}
-use Rattle.theorem.specs.Trace.{state, Handed, handed, Call-ends, Trace, handedOf, Equals}
+use Rattle.theorem.specs.Trace.{state, Handed, Call-ends, handedOf}
 use Rattle.theorem.specs.Trace as trace
-use Rattle.theorem.specs.Theorem.{one-call, any-list, theorem-sound}
+use Rattle.theorem.specs.Theorem.{one-call, runs-equal}
 use Rattle.laying.specs.Laws.{numbers-size}
-use Rattle.layout.specs.Layout.{entries, sizeAt, part, stored, loaded, Fits}
+use Rattle.layout.specs.Layout.{entries, part, stored, loaded, Fits}
 use Rattle.layout.specs.Back.{Storable, loaded-stored, stored-fits}
 use Rattle.rowstore.specs.Host.{openTests, firstRecords, HostOpens, readTests}
-use Rattle.rowstore.specs.Laws.{number-some}
-use Rattle.hosting.specs.Called.{rowIn, Host-ends, snapshot-ends, read-ends, write-ends, delete-ends, count-ends, Host-trace, over, then}
+use Rattle.hosting.specs.Calls.{HostCall, read, hostVerdict, hostAnswer, hostAfter, hostAnswers, hostFinal}
+use Rattle.hosting.specs.Called.{rowIn, Host-ends, snapshot-ends, read-ends, write-ends, delete-ends, count-ends, Host-trace, over, then, Holds}
 
 -- records that run can be stored
 runs-storable : {z : Records} {places : List ℕ} {m : Model} → Runs z places m → Storable z
@@ -54,17 +59,8 @@ module _ (b : List ℕ) (f : Fits b) where
   reload none new got e h s = rw (e, sym h) (loaded-stored got s, stored-fits got s)
   reload (some x) new got e h s = rw (e) (sym h, f)
 
--- of a choice, a part
-tree-chosen : (v : Option Refusal) (z : Records) (t : Tree) → withTree z (unless v (λ x. z .tree) t) ≡ unless v (λ x. z) (withTree z t)
-tree-chosen none z t = refl
-tree-chosen (some x) z t = refl
-
 abbrev leftOf : Records → Left → Records
 leftOf z l = recordsOf (z .size) (l .tree) (l .node) (l .row)
-
-left-chosen : (v : Option Refusal) (z : Records) (l : Left) → leftOf z (unless v (λ x. left (z .tree) (z .node) (z .row)) l) ≡ unless v (λ x. z) (leftOf z l)
-left-chosen none z l = refl
-left-chosen (some x) z l = refl
 
 abbrev heldOf : Records → Held → Records
 heldOf z h = recordsOf (z .size) (h .tree) (h .node) (h .row)
@@ -72,10 +68,6 @@ heldOf z h = recordsOf (z .size) (h .tree) (h .node) (h .row)
 module _ (v : Option Refusal) (z : Records) (places : List ℕ) (h : Held) where
   abbrev kept : Held
   kept = unless v (λ x. held (z .tree) (z .node) (z .row) places) h
-
-held-chosen : (v : Option Refusal) (z : Records) (places : List ℕ) (h : Held) → heldOf z (kept v z places h) ≡ unless v (λ x. z) (heldOf z h)
-held-chosen none z places h = refl
-held-chosen (some x) z places h = refl
 
 pair-chosen : (v : Option Refusal) (z : Records) (b places : List ℕ) (h : Held) {b′ places′ : List ℕ} → _≡_ {A = List ℕ × List ℕ} (b′, places′) (unless v (λ x. (b, places)) (stored (heldOf z h), h .places))
     → (b′ ≡ unless v (λ x. b) (stored (heldOf z h))) × (places′ ≡ kept v z places h .places)
@@ -98,34 +90,72 @@ unfolding rowIn
 read-hands none bytes out out′ l = record { numbered = l .numbered; handed = rw (l .numbered, l .left) }
 read-hands (some x) bytes out out′ l = record { numbered = l .numbered; handed = rw (l .numbered, ne-eqb (number x) 0 (number-some x)) }
 
--- the bytes' measures are those of the records that they are
-sized : (b : List ℕ) {n : ℕ} → n ≡ sizeAt b .width → n ≡ loaded b .size .width
-unfolding loaded
-sized b w = w
-
 answered : (z : Records) (places : List ℕ) (tag r number : ℕ) (bytes : List ℕ) → Hands (unless (refusal (queries.readTests z (length places) tag r)) refused (row (rowOfTag z places tag r))) number bytes
     → Hands (readAnswer z places tag r) number bytes
 unfolding readAnswer
 answered z places tag r number bytes h = h
 
--- One call from C is a call
+-- a read into any other number of bytes is refused with 2, and fills nothing
+wrong-room : (z : Records) (places out : List ℕ) (tag r : ℕ) → length places ≡ z .size .places * z .size .width → length out ≢ z .size .width
+    → refusal (readTests z (length places) (length out) tag r) ≡ some bad-length
+unfolding readTests
+wrong-room z places out tag r p w = refusal-next bad-length _ (not-no (eq-eqb _ _ p)) ∙ refusal-here bad-length _ (not-yes (ne-eqb _ _ w))
+
+unfilled : (v : Option Refusal) (bytes out out′ : List ℕ) {answer : ℕ} → v ≡ some bad-length → Leaves v out bytes answer out′ → (answer ≡ 2) × (rowIn answer out′ ≡ [])
+unfolding rowIn
+unfilled v bytes out out′ {answer} e l = let n : answer ≡ 2 = l .numbered ∙ rw e in (n, rw n)
+
+-- One call from C, and what the model says of it
+
+module _ (z : Size) (m : Model) where
+  room-fits : (tag r n : ℕ) → n ≡ z .width → (hostAnswer z m (read tag r n) ≡ answer z m (on-records.read tag r)) × (hostAfter z m (read tag r n) ≡ after z m (on-records.read tag r))
+  unfolding hostAnswer hostAfter hostVerdict answer after verdict
+  room-fits tag r n e =
+      let v : hostVerdict z m (read tag r n) ≡ verdict z m (on-records.read tag r) = refusal-next bad-length (tests z (m .snapshots) (m .mark) (on-records.read tag r)) (not-no (eq-eqb n (z .width) e)) in
+      (rw v, rw v)
+
+  room-wrong : (tag r n : ℕ) → n ≢ z .width → (hostAnswer z m (read tag r n) ≡ refused bad-length) × (hostAfter z m (read tag r n) ≡ m)
+  unfolding hostAnswer hostAfter hostVerdict
+  room-wrong tag r n e =
+      let v : hostVerdict z m (read tag r n) ≡ some bad-length = refusal-here bad-length (tests z (m .snapshots) (m .mark) (on-records.read tag r)) (not-yes (ne-eqb n (z .width) e)) in
+      (rw v, rw v)
+
+-- what is to be shown of one call from C
+pub record Told (b : List ℕ) (m : Model) (c : HostCall) (h : Handed) (b′ places′ : List ℕ) : Type 0 where
+  pub hands : h ≡ handedOf (hostAnswer (loaded b .size) m c)
+  pub sized : loaded b′ .size ≡ loaded b .size
+  pub fits : Fits b′
+  pub runs : Runs (loaded b′) places′ (hostAfter (loaded b .size) m c)
 
 module _ (b places : List ℕ) (m : Model) (f : Fits b) (run : Runs (loaded b) places m) where
   abbrev z : Records
   z = loaded b
 
-  host-call : {c : Call} {h : Handed} {b′ places′ : List ℕ} → Host-ends b places c h b′ places′ → Call-ends z places c h (state (loaded b′) places′) × Fits b′
+  -- it is a call on the records that the bytes are loaded as
+  told : {c : HostCall} {k : Call} {h : Handed} {b′ places′ : List ℕ} → hostAnswer (z .size) m c ≡ answer (z .size) m k → hostAfter (z .size) m c ≡ after (z .size) m k
+      → Fits b′ → Call-ends z places k h (state (loaded b′) places′) → Told b m c h b′ places′
+  told p q fits k = let (h, e, r) = one-call run k in record { hands = h ∙ ap handedOf (sym p); sized = e; fits = fits; runs = rw q r }
+
+  host-call : {c : HostCall} {h : Handed} {b′ places′ : List ℕ} → Host-ends b places c h b′ places′ → Told b m c h b′ places′
+  unfolding hostAnswer hostAfter hostVerdict answer after verdict
   host-call (snapshot-ends {source = source} {new = new} {number = number} e) =
       let l = e .sound f (run .store .sound) in
       let v = snapshotVerdict z source new in
       let t = snapshotTree (z .tree) source new in
       let got : Leaves v (z .tree) t number (unless v (λ x. z .tree) t) = record { numbered = l .numbered; left = refl } in
       let next = snapshot-call z places m run source new number _ got .1 in
-      let (same, fits) = reload b f v (withTree z t) _ (l .left) (tree-chosen v z t) (runs-storable next) in
-      (rw same (trace.snapshot-ends (judged-sound (run .store .sound) got)), fits)
-  host-call (read-ends {tag = tag} {r = r} {number = number} {out = out} {out′ = out′} w e) =
-      let l = rw (read-tests z places out tag r (sized b w)) at (e .sound f (run .store .sound)) in
-      (trace.read-ends (judged-sound (run .store .sound) (answered z places tag r number (rowIn number out′) (read-hands (refusal (queries.readTests z (length places) tag r)) (rowOfTag z places tag r) out out′ l))), f)
+      let (same, fits) = reload b f v (withTree z t) _ (l .left) (unless-made (withTree z) v (z .tree) t) (runs-storable next) in
+      told refl refl fits (rw same (trace.snapshot-ends (judged-sound (run .store .sound) got)))
+  host-call (read-ends {tag = tag} {r = r} {number = number} {out = out} {out′ = out′} e) = by-cases (ℕ-discrete (length out) (z .size .width))
+      (λ w.
+      let (p, q) = room-fits (z .size) m tag r (length out) w in
+      let l = rw (read-tests z places out tag r w) at (e .sound f (run .store .sound)) in
+      told p q f (trace.read-ends (judged-sound (run .store .sound) (answered z places tag r number (rowIn number out′)
+      (read-hands (refusal (queries.readTests z (length places) tag r)) (rowOfTag z places tag r) out out′ l)))))
+      (λ w.
+      let (p, q) = room-wrong (z .size) m tag r (length out) w in
+      let (n, empty) = unfilled _ _ out out′ (wrong-room z places out tag r (run .store .size) w) (e .sound f (run .store .sound)) in
+      record { hands = rw (p, n, rw n at empty); sized = refl; fits = f; runs = rw q run })
   host-call (write-ends {tag = tag} {r = r} {number = number} {bs = bs} e) =
       let l = e .sound f (run .store .sound) in
       let v = writeVerdict z places tag r bs in
@@ -133,27 +163,29 @@ module _ (b places : List ℕ) (m : Model) (f : Fits b) (run : Runs (loaded b) p
       let got : Leaves v (held (z .tree) (z .node) (z .row) places) h number (kept v z places h) = record { numbered = l .numbered; left = refl } in
       let next = write-call z places m run tag r number bs _ got .1 in
       let (bytes, rest) = pair-chosen v z b places h (l .left) in
-      let (same, fits) = reload b f v (heldOf z h) _ bytes (held-chosen v z places h) (runs-storable next) in
-      (rw (same, rest) (trace.write-ends (judged-sound (run .store .sound) got)), fits)
+      let (same, fits) = reload b f v (heldOf z h) _ bytes (unless-made (heldOf z) v (held (z .tree) (z .node) (z .row) places) h) (runs-storable next) in
+      told refl refl fits (rw (same, rest) (trace.write-ends (judged-sound (run .store .sound) got)))
   host-call (delete-ends {tag = tag} {number = number} e) =
       let l = e .sound f (run .store .sound) in
       let v = deleteVerdict z tag in
       let d = deleted z tag in
       let got : Leaves v (left (z .tree) (z .node) (z .row)) d number (unless v (λ x. left (z .tree) (z .node) (z .row)) d) = record { numbered = l .numbered; left = refl } in
       let next = delete-call z places m run tag number _ got .1 in
-      let (same, fits) = reload b f v (leftOf z d) _ (l .left) (left-chosen v z d) (runs-storable next) in
-      (rw same (trace.delete-ends (judged-sound (run .store .sound) got)), fits)
-  host-call (count-ends e) = (trace.count-ends (judged-sound (run .store .sound) (e .sound f (run .store .sound))), f)
+      let (same, fits) = reload b f v (leftOf z d) _ (l .left) (unless-made (leftOf z) v (left (z .tree) (z .node) (z .row)) d) (runs-storable next) in
+      told refl refl fits (rw same (trace.delete-ends (judged-sound (run .store .sound) got)))
+  host-call (count-ends e) = told refl refl f (trace.count-ends (judged-sound (run .store .sound) (e .sound f (run .store .sound))))
 
 -- Any list of calls from C
 
--- it is a list of calls on the records that the bytes are
-host-trace : {b places b′ places′ : List ℕ} {m : Model} {cs : List Call} {hs : List Handed} → Fits b → Runs (loaded b) places m → Host-trace b places cs hs b′ places′
-    → Trace (state (loaded b) places) cs hs (state (loaded b′) places′)
-host-trace f run over = trace.over
-host-trace {b} {places} {m = m} f run (then e rest) =
-    let (k, fits) = host-call b places m f run e in
-    trace.then k (host-trace fits (one-call run k .2) rest)
+module _ (size : Size) where
+  host-list : {b places b′ places′ : List ℕ} {m : Model} {cs : List HostCall} {hs : List Handed} → Fits b → loaded b .size ≡ size → Runs (loaded b) places m → Host-trace b places cs hs b′ places′
+      → (hs ≡ map handedOf (hostAnswers size m cs)) × Holds size b′ places′ (hostFinal size m cs)
+  unfolding hostAnswers hostFinal
+  host-list f e run over = (refl, record { fits = f; equals = runs-equal size _ _ e run })
+  host-list {b} {places} {m = m} f e run (then {c = c} k rest) =
+      let t = host-call b places m f run k in
+      let (hs, last) = host-list (t .fits) (t .sized ∙ e) (rw e at (t .runs)) rest in
+      (ap₂ _∷_ (t .hands ∙ ap (λ (x : Size). handedOf (hostAnswer x m c)) e) hs, last)
 
 -- From an accepted opening
 
@@ -187,9 +219,9 @@ opened-runs z b places {b′} {places′} o = go (refusal (openTests z (length b
         rw (bytes, rest, long, loaded-stored (firstRecords z) s) (stored-fits (firstRecords z) s, refl, run)
 
 pub guarantee-opened : (z : Size) (b places b₀ places₀ : List ℕ) → HostOpens z b places 0 (b₀, places₀)
-    → {cs : List Call} {hs : List Handed} {b′ places′ : List ℕ} → Host-trace b₀ places₀ cs hs b′ places′
-    → (hs ≡ map handedOf (answers z (opened z) cs)) × Equals (state (loaded b′) places′) (final z (opened z) cs)
-guarantee-opened z b places b₀ places₀ o t = let (f, e, run) = opened-runs z b places o in any-list z e run (host-trace f run t)
+    → {cs : List HostCall} {hs : List Handed} {b′ places′ : List ℕ} → Host-trace b₀ places₀ cs hs b′ places′
+    → (hs ≡ map handedOf (hostAnswers z (opened z) cs)) × Holds z b′ places′ (hostFinal z (opened z) cs)
+guarantee-opened z b places b₀ places₀ o t = let (f, e, run) = opened-runs z b places o in host-list z f e run t
 
 -- From bytes of sound records, with P × B bytes of places
 
@@ -201,6 +233,6 @@ loaded-whole b f = record { state = long 6 128 (omega (arith, f .long)); tag = n
     long from n l = length-take-le n (drop from b) (omega (arith, length-drop from b))
 
 pub guarantee-sound : (b places : List ℕ) → Fits b → Store (loaded b) places
-    → {cs : List Call} {hs : List Handed} {b′ places′ : List ℕ} → Host-trace b places cs hs b′ places′
-    → (hs ≡ map handedOf (answers (loaded b .size) (started (loaded b) places) cs)) × Equals (state (loaded b′) places′) (final (loaded b .size) (started (loaded b) places) cs)
-guarantee-sound b places f st t = theorem-sound (loaded b) places st (loaded-whole b f) (host-trace f (start-call (loaded b) places st (loaded-whole b f)) t)
+    → {cs : List HostCall} {hs : List Handed} {b′ places′ : List ℕ} → Host-trace b places cs hs b′ places′
+    → (hs ≡ map handedOf (hostAnswers (loaded b .size) (started (loaded b) places) cs)) × Holds (loaded b .size) b′ places′ (hostFinal (loaded b .size) (started (loaded b) places) cs)
+guarantee-sound b places f st t = host-list (loaded b .size) f refl (start-call (loaded b) places st (loaded-whole b f)) t

@@ -1,2 +1,4 @@
+pub mod Calls
 pub mod Called
 pub mod Guarantee
+pub mod Cases

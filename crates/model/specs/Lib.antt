@@ -1,4 +1,3 @@
 pub mod Call
 pub mod Model
-pub mod Tests
 pub mod Worked

@@ -1,13 +1,15 @@
 -- The reference model, document 01's shelf: a full copy of every living version, with a mark for each of its rows.
 -- It computes, and it knows nothing of trees, tables or places. Assumes nothing.
-use mathlib.Core.Bool.{Bool, true, false, not, _&&_, _||_, cond}
+use mathlib.Core.Bool.{Bool, false, not, _&&_, _||_, cond}
 use mathlib.Core.List.{List, [], _∷_}
-use mathlib.Core.Option.{Option, none, some}
-use Prim.Native.Nat.{ℕ, zero, suc, pred, _-_, _*_}
+use mathlib.Core.Option.{Option}
+use Prim.Native.Nat.{ℕ, zero, suc, pred}
 use lib.Dec.{eqb, leb}
 use lib.ListN.{length, replicate}
 use Rattle.measures.specs.declared.Size.{Size}
-use Rattle.model.specs.Call.{Call, snapshot, read, write, delete, count, Refusal, bad-size, bad-length, bad-row, zero-tag, origin-tag, unknown-tag, tag-alive, snapshots-full, places-full, Answer, done, row, counts, refused}
+use Rattle.model.specs.Call.{Call, snapshot, read, write, delete, count}
+use Rattle.answers.specs.Answers.{Refusal, bad-length, bad-row, zero-tag, origin-tag, unknown-tag, tag-alive, snapshots-full, places-full, Answer, done, row, counts, refused}
+use Rattle.answers.specs.Tests.{Tests, refusal, unless}
 
 -- a tag and a row
 abbrev pub Cell : Type 0
@@ -60,32 +62,7 @@ shared tags mark t r = any (λ u. not (eqb u t) && eqb (mark (u, r)) (mark (t, r
 unfoldable pub placesUsed : ℕ → List ℕ → (Cell → ℕ) → ℕ
 placesUsed n tags mark = different mark (cells n (living tags))
 
--- The tests of each call, in document 01's order: the first that holds refuses
-
-abbrev pub Tests : Type 0
-Tests = List (Bool × Refusal)
-
--- one test in front: it refuses, or the rest decides
-abbrev pub orElse : Bool → Refusal → Option Refusal → Option Refusal
-orElse true r rest = some r
-orElse false r rest = rest
-
-unfoldable pub refusal : Tests → Option Refusal
-refusal [] = none
-refusal (t ∷ ts) = orElse (t .0) (t .1) (refusal ts)
-
-unfoldable pub inMeasure : Size → Bool
-inMeasure z =
-    (leb 1 (z .rows) && leb (z .rows) 1024) && (leb 1 (z .width) && leb (z .width) 1024) && (leb (z .rows) (z .places) && leb (z .places) 4096)
-
--- opening sees the lent buffers by their lengths: the places, and the two halves of the table
-unfoldable pub openTests : Size → ℕ → ℕ → ℕ → Tests
-openTests z places nodes rows =
-    (not (inMeasure z), bad-size)
-    ∷ (not (eqb places (z .places * z .width)), bad-length)
-    ∷ (not (eqb nodes (z .places - z .rows)), bad-length)
-    ∷ (not (eqb rows (z .places - z .rows)), bad-length)
-    ∷ []
+-- The tests of each call, in document 01's order
 
 module _ (z : Size) (tags : List ℕ) (mark : Cell → ℕ) where
   unfoldable pub tests : Call → Tests
@@ -105,11 +82,6 @@ module _ (z : Size) (tags : List ℕ) (mark : Cell → ℕ) where
   accepted bytes (write t r bs) = done
   accepted bytes (delete t) = done
   accepted bytes count = counts (placesUsed (z .rows) tags mark) (snapshotsAlive tags)
-
--- refused with its reason, or else
-abbrev pub unless {ℓ} : {A : Type ℓ} → Option Refusal → (Refusal → A) → A → A
-unless none f a = a
-unless (some r) f a = f r
 
 -- What an accepted call does
 

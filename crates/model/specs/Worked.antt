@@ -5,8 +5,10 @@ use mathlib.Core.Option.{none, some}
 use Prim.Native.Nat.{ℕ, zero, suc}
 use lib.ListN.{replicate}
 use Rattle.measures.specs.declared.Size.{Size}
-use Rattle.model.specs.Call.{Call, snapshot, read, write, delete, count, bad-size, bad-length, done, row, counts, refused, bad-row, zero-tag, origin-tag, unknown-tag, tag-alive, snapshots-full, places-full}
-use Rattle.model.specs.Model.{any, different, alive, snapshotsAlive, shared, placesUsed, refusal, inMeasure, openTests, tests, accepted, adopt, put, without, effect, opened, verdict, answer, after, answers, final}
+use Rattle.model.specs.Call.{Call, snapshot, read, write, delete, count}
+use Rattle.answers.specs.Answers.{bad-size, bad-length, done, row, counts, refused, bad-row, zero-tag, origin-tag, unknown-tag, tag-alive, snapshots-full, places-full}
+use Rattle.model.specs.Model.{any, different, alive, snapshotsAlive, shared, placesUsed, tests, accepted, adopt, put, without, effect, opened, verdict, answer, after, answers, final}
+use Rattle.answers.specs.Tests.{refusal, inMeasure, openTests}
 
 -- L = 4, B = 8, P = 6
 abbrev small : Size

@@ -15,9 +15,9 @@ use Rattle.basics.specs.Decide.{at, not-yes, not-no}
 use Rattle.measures.specs.declared.Size.{Size}
 use Rattle.measures.specs.Measures.{Within}
 use Rattle.records.specs.declared.Tree.{Tree}
-use Rattle.model.specs.Call.{Refusal, bad-size, bad-length, number}
-use Rattle.model.specs.Model.{Tests, refusal, openTests, inMeasure}
-use Rattle.model.specs.Tests.{refusal-here, refusal-next, refusal-none, in-measure, measure-in}
+use Rattle.answers.specs.Answers.{Refusal, bad-size, bad-length, number}
+use Rattle.answers.specs.Tests.{Tests, refusal, openTests, inMeasure}
+use Rattle.answers.specs.Laws.{refusal-here, refusal-next, refusal-none, in-measure, measure-in}
 use Rattle.opening.specs.Opening.{noTree, firstTree, openVerdict, Opening}
 
 -- a list xs of which the numbers below i have been cleared

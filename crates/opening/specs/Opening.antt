@@ -7,8 +7,8 @@ use lib.ListN.{length, replicate, set}
 use Rattle.measures.specs.declared.Size.{Size}
 use Rattle.records.specs.declared.Tree.{Tree}
 use Rattle.records.specs.Records.{treeOf}
-use Rattle.model.specs.Call.{Refusal, done, refused, numberOf}
-use Rattle.model.specs.Model.{refusal, openTests, unless}
+use Rattle.answers.specs.Answers.{Refusal, done, refused, numberOf}
+use Rattle.answers.specs.Tests.{refusal, openTests, unless}
 
 -- no node in use; and node 0 alone, alive, with tag 0 and parent 0
 abbrev pub noTree : Tree

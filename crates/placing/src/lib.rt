@@ -1,8 +1,8 @@
 // The bytes of places: a row written to a place, and a row copied from one place to another. Each place's bytes are lent on as a part of the buffer.
 ghost use mathlib.Core.Path.{_≡_};
 ghost use lib.ListN.{length};
-ghost use Rattle.measures.specs.Measures.{bytesAt};
-ghost use Rattle.placing.specs.Placing.{putAt, Inside};
+ghost use Rattle.measures.specs.Measures.{beginsAt, bytesAt};
+ghost use Rattle.placing.specs.Placing.{putAt, Inside, Lies};
 use measures::Place;
 
 // Every number of `to` becomes that of `from`, which is as long.
@@ -20,7 +20,7 @@ pub fn fill(to: &mut [u8], from: &[u8])
 // The bytes of a place, where they lie.
 pub fn part<'a>(places: &'a [u8], width: usize, place: Place) -> &'a [u8]
     requires { ⌜ Inside (now places) width (place .0) ⌝ }
-    ensures { λ s. ⌜ now s ≡ bytesAt width (now (places .entry)) (place .0) ⌝ }
+    ensures { λ s. ⌜ (now s ≡ bytesAt width (now (places .entry)) (place .0)) × Lies (places .entry .ptr) (beginsAt width (place .0)) (s .ptr) ⌝ }
 {
     let start = measures::offset(width, place);
     let to = start + width;

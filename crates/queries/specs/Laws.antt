@@ -1,5 +1,5 @@
 -- The ways out of read, one for each test, and that a place read lies inside the places. Assumes nothing.
-use mathlib.Core.Path.{_≡_, sym, _∙_}
+use mathlib.Core.Path.{_≡_, refl, sym, _∙_}
 use mathlib.Core.Bool.{not}
 use mathlib.Core.List.{List, [], _∷_}
 use mathlib.Core.Option.{none, some}
@@ -10,7 +10,7 @@ use lib.Dec.{leb}
 use lib.ListN.{length}
 use borrow.Author.Tests.{eq-eqb, ne-eqb, le-leb, lt-leb}
 use Rattle.basics.specs.Decide.{not-yes, not-no}
-use Rattle.measures.specs.Measures.{bytesAt}
+use Rattle.measures.specs.Measures.{beginsAt, bytesAt}
 use Rattle.records.specs.declared.Tree.{Tree}
 use Rattle.records.specs.Records.{Records, table, InUse, version}
 use Rattle.records.specs.Reading.{place, lives, tagPlace}
@@ -18,17 +18,24 @@ use Rattle.records.specs.Sound.{Sound}
 use Rattle.tree.specs.Nodes.{version-alive}
 use Rattle.reading.specs.Lookup.{Looking}
 use Rattle.reading.specs.Used.{place-low}
-use Rattle.model.specs.Call.{Refusal, bad-length, bad-row, unknown-tag, number}
-use Rattle.model.specs.Model.{Tests, refusal}
-use Rattle.model.specs.Tests.{refusal-here, refusal-next, refusal-none}
-use Rattle.placing.specs.Placing.{Inside}
-use Rattle.queries.specs.Queries.{Hands, readTests, rowOfTag, readAnswer}
+use Rattle.answers.specs.Answers.{Refusal, bad-length, bad-row, unknown-tag, number}
+use Rattle.answers.specs.Tests.{Tests, refusal}
+use Rattle.answers.specs.Laws.{refusal-here, refusal-next, refusal-none}
+use Rattle.soundness.specs.Judged.{judged-sound, judged-unsound}
+use Rattle.placing.specs.Placing.{Inside, Spot, Lies}
+use Rattle.queries.specs.Queries.{readTests, rowOfTag, readAnswer, partFrom, ReadEnds, ReadPart}
+
+-- the empty part at the front of what is lent
+abbrev Nothing : Spot → List ℕ → Spot → Type 0
+Nothing whole bytes part = (bytes ≡ []) × Lies whole 0 part
 
 module _ (z : Records) (places : List ℕ) (tag r : ℕ) where
-  -- a refused read hands out the empty part
-  hands-refused : (x : Refusal) → refusal (readTests z (length places) tag r) ≡ some x → Hands (readAnswer z places tag r) (number x) []
-  unfolding readAnswer
-  hands-refused x e = record { numbered = rw e; handed = rw e }
+  -- a read's whole promise: what it answers, and which part of the places it hands out
+  abbrev Promise : ℕ → Spot → List ℕ → Spot → Type 0
+  Promise number whole bytes part = ReadEnds z places tag r number bytes × ReadPart z places tag r whole part
+
+  pub read-unsound : (Sound z → ⊥) → {whole part : Spot} {bytes : List ℕ} → Nothing whole bytes part → Promise 20 whole bytes part
+  read-unsound u (h, l) = (judged-unsound u (record { numbered = refl; handed = h }), judged-unsound u l)
 
   tagTest : Tests
   tagTest = (not (lives z tag), unknown-tag) ∷ []
@@ -36,33 +43,40 @@ module _ (z : Records) (places : List ℕ) (tag r : ℕ) where
   rowTest : Tests
   rowTest = (leb (z .size .rows) r, bad-row) ∷ tagTest
 
-  pub read-length : (length places ≡ z .size .places * z .size .width → ⊥) → Hands (readAnswer z places tag r) 2 []
-  unfolding readTests
-  read-length h = hands-refused bad-length (refusal-here bad-length _ (not-yes (ne-eqb _ _ h)))
+  module _ (s : Sound z) where
+    read-refused : (x : Refusal) → refusal (readTests z (length places) tag r) ≡ some x → {whole part : Spot} {bytes : List ℕ} → Nothing whole bytes part → Promise (number x) whole bytes part
+    unfolding readAnswer partFrom
+    read-refused x e (h, l) = (judged-sound s (record { numbered = rw e; handed = rw e h }), judged-sound s (rw e l))
 
-  module _ (p : length places ≡ z .size .places * z .size .width) where
-    length-passed : refusal (readTests z (length places) tag r) ≡ refusal rowTest
-    unfolding readTests rowTest tagTest
-    length-passed = refusal-next bad-length _ (not-no (eq-eqb _ _ p))
+    pub read-length : (length places ≡ z .size .places * z .size .width → ⊥) → {whole part : Spot} {bytes : List ℕ} → Nothing whole bytes part → Promise 2 whole bytes part
+    unfolding readTests
+    read-length h = read-refused bad-length (refusal-here bad-length _ (not-yes (ne-eqb _ _ h)))
 
-    pub read-row : (r < z .size .rows → ⊥) → Hands (readAnswer z places tag r) 3 []
-    unfolding rowTest
-    read-row h = hands-refused bad-row (length-passed ∙ refusal-here bad-row tagTest (le-leb (z .size .rows) r (omega arith)))
+    module _ (p : length places ≡ z .size .places * z .size .width) where
+      length-passed : refusal (readTests z (length places) tag r) ≡ refusal rowTest
+      unfolding readTests rowTest tagTest
+      length-passed = refusal-next bad-length _ (not-no (eq-eqb _ _ p))
 
-    module _ (l : r < z .size .rows) where
-      row-passed : refusal (readTests z (length places) tag r) ≡ refusal tagTest
+      pub read-row : (r < z .size .rows → ⊥) → {whole part : Spot} {bytes : List ℕ} → Nothing whole bytes part → Promise 3 whole bytes part
       unfolding rowTest
-      row-passed = length-passed ∙ refusal-next bad-row tagTest (lt-leb _ _ l)
+      read-row h = read-refused bad-row (length-passed ∙ refusal-here bad-row tagTest (le-leb (z .size .rows) r (omega arith)))
 
-      pub read-tag : version (z .tree) tag ≡ none → Hands (readAnswer z places tag r) 21 []
-      unfolding tagTest lives
-      read-tag v = hands-refused unknown-tag (row-passed ∙ refusal-here unknown-tag [] (rw v))
+      module _ (l : r < z .size .rows) where
+        row-passed : refusal (readTests z (length places) tag r) ≡ refusal tagTest
+        unfolding rowTest
+        row-passed = length-passed ∙ refusal-next bad-row tagTest (lt-leb _ _ l)
 
-      pub read-done : (n : ℕ) → version (z .tree) tag ≡ some n → Hands (readAnswer z places tag r) 0 (bytesAt (z .size .width) places (place (z .tree) (table z) n r))
-      unfolding tagTest lives readAnswer rowOfTag tagPlace
-      read-done n v =
-          let e : refusal (readTests z (length places) tag r) ≡ none = row-passed ∙ refusal-next unknown-tag [] (rw v) ∙ refusal-none in
-          record { numbered = rw e; handed = rw (e, v) }
+        pub read-tag : version (z .tree) tag ≡ none → {whole part : Spot} {bytes : List ℕ} → Nothing whole bytes part → Promise 21 whole bytes part
+        unfolding tagTest lives
+        read-tag v = read-refused unknown-tag (row-passed ∙ refusal-here unknown-tag [] (rw v))
+
+        -- the row of the version at node n, in the place from which that reads it
+        pub read-done : (n : ℕ) → version (z .tree) tag ≡ some n → {whole part : Spot} {bytes : List ℕ} → bytes ≡ bytesAt (z .size .width) places (place (z .tree) (table z) n r)
+            → Lies whole (beginsAt (z .size .width) (place (z .tree) (table z) n r)) part → Promise 0 whole bytes part
+        unfolding tagTest lives readAnswer rowOfTag tagPlace partFrom
+        read-done n v h m =
+            let e : refusal (readTests z (length places) tag r) ≡ none = row-passed ∙ refusal-next unknown-tag [] (rw v) ∙ refusal-none in
+            (judged-sound s (record { numbered = rw e; handed = rw (e, v) h }), judged-sound s (rw (e, v) m))
 
 -- the node of a living version is in use, and the lookup may start from it
 pub version-used : (t : Tree) (tag n : ℕ) → version t tag ≡ some n → InUse t n

@@ -5,12 +5,13 @@ use mathlib.Core.List.{List, [], _∷_}
 use Prim.Native.Nat.{ℕ, _*_}
 use lib.Dec.{eqb, leb}
 use lib.ListN.{length}
-use Rattle.measures.specs.Measures.{bytesAt}
+use Rattle.measures.specs.Measures.{beginsAt, bytesAt}
+use Rattle.placing.specs.Placing.{Spot, Lies}
 use Rattle.records.specs.Records.{Records, table, snapshots, used}
 use Rattle.records.specs.Reading.{lives, tagPlace}
 use Rattle.soundness.specs.Judged.{Judged}
-use Rattle.model.specs.Call.{bad-length, bad-row, unknown-tag, unsound, Answer, row, counts, refused, numberOf, rowOf, usedOf, snapshotsOf}
-use Rattle.model.specs.Model.{Tests, refusal, unless}
+use Rattle.answers.specs.Answers.{bad-length, bad-row, unknown-tag, unsound, Answer, row, counts, refused, numberOf, rowOf, usedOf, snapshotsOf}
+use Rattle.answers.specs.Tests.{Tests, refusal, unless}
 
 -- the caller is handed an answer: its number and its row; its number and its two counts
 pub record Hands (a : Answer) (number : ℕ) (bytes : List ℕ) : Type 0 where
@@ -41,9 +42,17 @@ rowOfTag z places tag r = bytesAt (z .size .width) places (tagPlace z tag r)
 unfoldable pub readAnswer : Records → List ℕ → ℕ → ℕ → Answer
 readAnswer z places tag r = unless (refusal (readTests z (length places) tag r)) refused (row (rowOfTag z places tag r))
 
+-- where in the places the part that is handed out begins: at the row's own place, or at their front if the read is refused
+unfoldable pub partFrom : Records → ℕ → ℕ → ℕ → ℕ
+partFrom z bytes tag r = unless (refusal (readTests z bytes tag r)) (λ x. 0) (beginsAt (z .size .width) (tagPlace z tag r))
+
 -- The promises of count and read: on sound records the answer above, on others 20
 abbrev pub CountEnds : Records → ℕ → ℕ → ℕ → Type 0
 CountEnds z number inUse alive = Judged z (Gives (countAnswer z) number inUse alive) (Gives (refused unsound) number inUse alive)
 
 abbrev pub ReadEnds : Records → List ℕ → ℕ → ℕ → ℕ → List ℕ → Type 0
 ReadEnds z places tag r number bytes = Judged z (Hands (readAnswer z places tag r) number bytes) (Hands (refused unsound) number bytes)
+
+-- and which part of the places, lent at `whole`, a read hands out
+abbrev pub ReadPart : Records → List ℕ → ℕ → ℕ → Spot → Spot → Type 0
+ReadPart z places tag r whole part = Judged z (Lies whole (partFrom z (length places) tag r) part) (Lies whole 0 part)

@@ -2,7 +2,8 @@
 ghost use mathlib.Core.Path.{_≡_};
 ghost use mathlib.Core.List.{[]};
 ghost use Rattle.records.specs.Records.{recordsOf};
-ghost use Rattle.queries.specs.Queries.{CountEnds, ReadEnds};
+ghost use Rattle.placing.specs.Placing.{Lies};
+ghost use Rattle.queries.specs.Queries.{CountEnds, ReadEnds, ReadPart};
 use measures::Row;
 use measures::Size;
 use records::Tree;
@@ -36,14 +37,14 @@ pub fn count<'a>(size: Size, tree: Tree, node: &'a [u8], row: &'a [u16]) -> Coun
     }
 }
 
-// The empty part of the places.
+// The empty part at the front of the places.
 fn nothing<'a>(places: &'a [u8]) -> &'a [u8]
-    ensures { λ s. ⌜ now s ≡ [] ⌝ }
+    ensures { λ s. ⌜ (now s ≡ []) × Lies (places .entry .ptr) 0 (s .ptr) ⌝ }
 {
     &places[..0]
 }
 
-// Refusals: 20, 2, 3, 21. The row is handed out where it lies in the places; a refusal hands out their empty part.
+// Refusals: 20, 2, 3, 21. The row is handed out where it lies in the places; a refusal hands out the empty part at their front.
 pub fn read<'a, 'b>(
     size: Size,
     tree: Tree,
@@ -54,7 +55,8 @@ pub fn read<'a, 'b>(
     r: Row,
     answer: &mut u8,
 ) -> &'a [u8]
-    ensures { λ s. ⌜ ReadEnds (recordsOf size tree (now (node .entry)) (now (row .entry))) (now (places .entry)) tag (r .0) (now (answer .exit)) (now s) ⌝ }
+    ensures { λ s. ⌜ ReadEnds (recordsOf size tree (now (node .entry)) (now (row .entry))) (now (places .entry)) tag (r .0) (now (answer .exit)) (now s)
+        × ReadPart (recordsOf size tree (now (node .entry)) (now (row .entry))) (now (places .entry)) tag (r .0) (places .entry .ptr) (s .ptr) ⌝ }
 {
     if !soundness::sound(size, tree, node, row) {
         *answer = 20;

@@ -12,8 +12,8 @@ use Rattle.records.specs.declared.Tree.{Tree}
 use Rattle.records.specs.Records.{Records, recordsOf}
 use Rattle.records.specs.Reading.{lives}
 use Rattle.records.specs.Sound.{Sound}
-use Rattle.model.specs.Call.{Refusal, bad-size, bad-length, bad-row, unknown-tag, unsound, refused, number}
-use Rattle.model.specs.Model.{Tests, refusal, inMeasure}
+use Rattle.answers.specs.Answers.{Refusal, bad-size, bad-length, bad-row, unknown-tag, unsound, refused, number}
+use Rattle.answers.specs.Tests.{Tests, refusal, inMeasure}
 use Rattle.soundness.specs.Judged.{Leaves}
 use Rattle.opening.specs.Opening.{firstTree}
 use Rattle.queries.specs.Queries.{Gives, countAnswer, rowOfTag}

@@ -10,7 +10,8 @@ use lib.Seq.{length-take-le}
 use Rattle.measures.specs.declared.Size.{Size}
 use Rattle.records.specs.declared.Tree.{Tree}
 use Rattle.records.specs.Records.{recordsOf}
-use Rattle.model.specs.Call.{Refusal, bad-size, bad-length, bad-row, zero-tag, origin-tag, unsound, unknown-tag, tag-alive, snapshots-full, places-full, number}
+use Rattle.answers.specs.Answers.{Refusal, unsound, number}
+use Rattle.answers.specs.Laws.{number-some}
 use Rattle.soundness.specs.Judged.{Judged, Leaves}
 use Rattle.queries.specs.Queries.{CountEnds}
 use Rattle.snapshots.specs.Taking.{SnapshotEnds}
@@ -25,19 +26,6 @@ host-judged f j = record { sound = λ g s. j .sound s; unsound = λ h. j .unsoun
 
 pub host-unfit : {b : List ℕ} {Yes No : Type 0} → (Fits b → ⊥) → No → Host b Yes No
 host-unfit h n = record { sound = λ f s. absurd (h f); unsound = λ g. n }
-
--- a refusal's number is not 0
-pub number-some : (r : Refusal) → number r ≡ 0 → ⊥
-number-some bad-size e = absurd (omega (arith, e))
-number-some bad-length e = absurd (omega (arith, e))
-number-some bad-row e = absurd (omega (arith, e))
-number-some zero-tag e = absurd (omega (arith, e))
-number-some origin-tag e = absurd (omega (arith, e))
-number-some unsound e = absurd (omega (arith, e))
-number-some unknown-tag e = absurd (omega (arith, e))
-number-some tag-alive e = absurd (omega (arith, e))
-number-some snapshots-full e = absurd (omega (arith, e))
-number-some places-full e = absurd (omega (arith, e))
 
 -- what a call left, said of other things: if it was refused they are as they were, if not they are new
 module _ {A B : Type 0} {old new got : A} {old′ new′ got′ : B} {answer : ℕ} where

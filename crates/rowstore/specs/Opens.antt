@@ -13,10 +13,10 @@ use Rattle.measures.specs.declared.Size.{Size}
 use Rattle.measures.specs.Measures.{Within}
 use Rattle.records.specs.declared.Tree.{Tree}
 use Rattle.records.specs.Records.{recordsOf}
-use Rattle.model.specs.Call.{bad-size, bad-length}
-use Rattle.model.specs.Model.{Tests, refusal, inMeasure}
-use Rattle.model.specs.Model as model
-use Rattle.model.specs.Tests.{refusal-here, refusal-next, refusal-none, in-measure, measure-in}
+use Rattle.answers.specs.Answers.{bad-size, bad-length}
+use Rattle.answers.specs.Tests.{Tests, refusal, inMeasure}
+use Rattle.answers.specs.Tests as tests
+use Rattle.answers.specs.Laws.{refusal-here, refusal-next, refusal-none, in-measure, measure-in}
 use Rattle.soundness.specs.Judged.{leaves-refused, leaves-done}
 use Rattle.opening.specs.Opening.{firstTree, openVerdict, Opening}
 use Rattle.layout.specs.Layout.{entries, recordsSize, stored}
@@ -48,7 +48,7 @@ module _ (z : Size) (b places : List ℕ) where
 
   pub open-done : {node row : List ℕ} {number : ℕ} {tree : Tree} {places′ node′ row′ b′ : List ℕ} → Openable z b places node row → Opening z places node row number tree places′ node′ row′
       → b′ ≡ stored (recordsOf z tree node′ row′) → HostOpens z b places 0 (b′, places′)
-  unfolding lengths openVerdict model.openTests
+  unfolding lengths openVerdict tests.openTests
   open-done {node} {row} {number} {tree} {places′} {node′} {row′} {b′} y o s =
       let v : openVerdict z places node row ≡ none =
       refusal-next bad-size _ (not-no (in-measure z (y .within)))

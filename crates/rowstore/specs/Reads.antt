@@ -17,9 +17,9 @@ use Rattle.records.specs.declared.Tree.{Tree}
 use Rattle.records.specs.Records.{Records, recordsOf, version}
 use Rattle.records.specs.Reading.{lives, tagPlace, isFound, placeBy}
 use Rattle.records.specs.Sound.{Sound}
-use Rattle.model.specs.Call.{Refusal, bad-length, bad-row, unknown-tag, unsound, done, refused, row, numberOf, rowOf}
-use Rattle.model.specs.Model.{refusal, unless}
-use Rattle.model.specs.Tests.{refusal-passed}
+use Rattle.answers.specs.Answers.{Refusal, bad-length, bad-row, unknown-tag, unsound, done, refused, row, numberOf, rowOf}
+use Rattle.answers.specs.Tests.{refusal, unless}
+use Rattle.answers.specs.Laws.{refusal-passed, number-some}
 use Rattle.soundness.specs.Judged.{Leaves}
 use Rattle.placing.specs.Laws.{bytes-size}
 use Rattle.queries.specs.Queries.{Hands, ReadEnds, readAnswer, rowOfTag}
@@ -27,7 +27,7 @@ use Rattle.queries.specs.Queries as queries
 use Rattle.queries.specs.Laws.{version-used, read-inside}
 use Rattle.layout.specs.Layout.{sizeAt, loaded, Fits}
 use Rattle.rowstore.specs.Host.{HostReads, readTests, copyNumber, Copied}
-use Rattle.rowstore.specs.Laws.{number-some, host-judged, as-loaded}
+use Rattle.rowstore.specs.Laws.{host-judged, as-loaded}
 
 -- the tests of a read, by what each of them says: places, row, tag; and with the length of the bytes lent for the row
 reads : Bool → Bool → Bool → Option Refusal

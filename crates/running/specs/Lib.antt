@@ -1,4 +1,5 @@
 pub mod Output
+pub mod Turns
 pub mod Laws
 pub mod Replies
 pub mod Loop

@@ -13,8 +13,9 @@ use Rattle.records.specs.declared.Tree.{Tree}
 use Rattle.records.specs.Records.{Records, recordsOf}
 use Rattle.records.specs.Reading.{tagPlace}
 use Rattle.records.specs.Sound.{Sound}
-use Rattle.model.specs.Call.{snapshot, read, write, delete, count, Refusal, row, refused, rowOf}
-use Rattle.model.specs.Model.{refusal, unless}
+use Rattle.model.specs.Call.{Call, snapshot, read, write, delete, count}
+use Rattle.answers.specs.Answers.{Refusal, row, refused, rowOf}
+use Rattle.answers.specs.Tests.{refusal, unless}
 use Rattle.queries.specs.Queries.{CountEnds, ReadEnds, readTests, readAnswer, rowOfTag}
 use Rattle.snapshots.specs.Taking.{SnapshotEnds}
 use Rattle.writing.specs.Writing.{Held, WriteEnds}
@@ -24,7 +25,8 @@ use Rattle.text.specs.Text.{line, dash, hex, pairText}
 use Rattle.laying.specs.Laid.{Lays}
 use Rattle.laying.specs.Laws.{lays-as}
 use Rattle.text.specs.Laws.{hex-size, pair-most}
-use Rattle.running.specs.Output.{Replied, Replies}
+use Rattle.running.specs.declared.Progress.{Progress}
+use Rattle.running.specs.Turns.{recordsIn, onward, stopped, Replied, Answered, Stopped}
 
 -- A read hands out a row's bytes at most
 
@@ -51,6 +53,10 @@ read-most z places tag r n {bs = bs} e = by-cases (decLe (length bs) (z .size .w
     rw nothing (omega arith))
 
 -- Calls and their lines
+
+-- of a call that touches no place, whatever the places hold
+abbrev Replies : Records → Call → ℕ → List ℕ → ℕ → Records → List ℕ → ℕ → Type 0
+Replies z c k out from z′ out′ to = (places : List ℕ) → Replied z places c k out from z′ places out′ to
 
 module _ {k from to : ℕ} {out out′ : List ℕ} where
   -- w is the number that a call answered, as the line has it
@@ -99,3 +105,13 @@ module _ {k from to : ℕ} {out out′ : List ℕ} where
     lays = lays-as (rw (sym e, eq-eqb w 0 f, f)) l;
     short = rw (sym e, eq-eqb w 0 f) (omega (arith, hex-size bs, read-most z places tag r n s));
   }
+
+-- a run goes on behind a call and its line
+pub answered : {run r : Progress} {node row places : List ℕ} {c : Call} {out : List ℕ} {tree : Tree} {end : ℕ} {node′ row′ places′ out′ : List ℕ} → r ≡ onward run tree end
+    → Replied (recordsIn run node row) places c (run .line) out (run .end) (recordsOf (run .size) tree node′ row′) places′ out′ end
+    → Answered run node row places c out r node′ row′ places′ out′
+answered {tree = tree} {end = end} e y = record { tree = tree; end = end; goes = e; replied = y }
+
+-- and stops behind its last line, with the number w
+pub stopped-at : {run r : Progress} {number w : ℕ} {out : List ℕ} {end : ℕ} {out′ : List ℕ} → r ≡ stopped run end → w ≡ number → Lays out (run .end) (line (run .line) w dash) out′ end → Stopped run number out r out′
+stopped-at {run} {end = end} e f y = record { end = end; goes = e; lays = lays-as (ap (λ (x : ℕ). line (run .line) x dash) f) y }

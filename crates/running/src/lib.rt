@@ -1,27 +1,24 @@
 // Runs a whole stream of commands on a store, and lays a line of text for each.
 ghost use mathlib.Core.Path.{_≡_};
-ghost use Prim.Native.Nat.{_+_, _*_, _≤_, _<_};
-ghost use lib.ListN.{length};
+ghost use Prim.Native.Nat.{_+_, _*_, _≤_};
 ghost use Rattle.records.specs.Records.{recordsOf};
 ghost use Rattle.model.specs.Call.{snapshot, read, write, delete, count};
-ghost use Rattle.running.specs.Output.{Replied, Replies, lineRoom, Ran-one, StreamEnds};
-ghost use Rattle.running.specs.Loop.{Through};
+ghost use Rattle.running.specs.Output.{lineRoom, StreamEnds};
+ghost use Rattle.running.specs.Turns.{onward, stopped, Room, Answered, Answers, Stopped, Ready, Turned};
+ghost use Rattle.running.specs.Loop.{Begins, Through};
 use commands::Command;
+use commands::Step;
 use measures::Row;
 use measures::Size;
 use records::Tree;
 
-// The tree that a call left, and the position behind its line.
-struct Reply {
+// A run between two commands: the store's size and tree, the end of the text so far, the next line's number, and whether it goes on.
+struct Progress {
+    size: Size,
     tree: Tree,
     end: usize,
-}
-
-// The same, with the position of the next command.
-struct Ran {
-    tree: Tree,
-    next: usize,
-    end: usize,
+    line: usize,
+    going: bool,
 }
 
 fn wide(x: u8) -> usize
@@ -36,55 +33,80 @@ fn wide16(x: u16) -> usize
     x as usize
 }
 
+// The run behind a call that left a tree, and whose line ends at `end`.
+fn on(run: Progress, tree: Tree, end: usize) -> Progress
+    requires { ⌜ run .line ≤ 4097 ⌝ }
+    ensures { λ r. ⌜ r ≡ onward run tree end ⌝ }
+{
+    let size = run.size;
+    let line = run.line + 1;
+    Progress {
+        size,
+        tree,
+        end,
+        line,
+        going: true,
+    }
+}
+
+// The run at its end.
+fn over(run: Progress, end: usize) -> Progress
+    ensures { λ r. ⌜ r ≡ stopped run end ⌝ }
+{
+    let size = run.size;
+    let tree = run.tree;
+    let line = run.line;
+    Progress {
+        size,
+        tree,
+        end,
+        line,
+        going: false,
+    }
+}
+
 // A snapshot, and its line.
 fn reply_snapshot<'a>(
-    size: Size,
-    tree: Tree,
+    run: Progress,
     node: &'a [u8],
     row: &'a [u16],
     source: u16,
     tag: u16,
     out: &mut [u8],
-    from: usize,
-    k: usize,
-) -> Reply
-    requires { ⌜ from + 12 ≤ length (now out) ⌝ }
-    ensures { λ r. ⌜ Replies (recordsOf size tree (now (node .entry)) (now (row .entry))) (snapshot source tag) k (now (out .entry)) from
-        (recordsOf size (r .tree) (now (node .entry)) (now (row .entry))) (now (out .exit)) (r .end) ⌝ }
+) -> Progress
+    requires { ⌜ Room run 12 (now out) ⌝ }
+    ensures { λ r. ⌜ Answers run (now (node .entry)) (now (row .entry)) (snapshot source tag) (now (out .entry)) r (now (node .entry)) (now (row .entry)) (now (out .exit)) ⌝ }
 {
-    let s = snapshots::snapshot(size, tree, node, row, source, tag);
+    let tree = run.tree;
+    let s = snapshots::snapshot(run.size, tree, node, row, source, tag);
     let answer = wide(s.answer);
     let next = s.tree;
-    let end = text::plain_line(out, from, k, answer);
-    Reply { tree: next, end }
+    let end = text::plain_line(out, run.end, run.line, answer);
+    on(run, next, end)
 }
 
 // A delete, and its line.
 fn reply_delete(
-    size: Size,
-    tree: Tree,
+    run: Progress,
     node: &mut [u8],
     row: &mut [u16],
     tag: u16,
     out: &mut [u8],
-    from: usize,
-    k: usize,
-) -> Reply
-    requires { ⌜ from + 12 ≤ length (now out) ⌝ }
-    ensures { λ r. ⌜ Replies (recordsOf size tree (now (node .entry)) (now (row .entry))) (delete tag) k (now (out .entry)) from
-        (recordsOf size (r .tree) (now (node .exit)) (now (row .exit))) (now (out .exit)) (r .end) ⌝ }
+) -> Progress
+    requires { ⌜ Room run 12 (now out) ⌝ }
+    ensures { λ r. ⌜ Answers run (now (node .entry)) (now (row .entry)) (delete tag) (now (out .entry)) r (now (node .exit)) (now (row .exit)) (now (out .exit)) ⌝ }
 {
-    let d = deleting::delete(size, tree, node, row, tag);
+    let tree = run.tree;
+    let d = deleting::delete(run.size, tree, node, row, tag);
     let answer = wide(d.answer);
     let next = d.tree;
-    let end = text::plain_line(out, from, k, answer);
-    Reply { tree: next, end }
+    let end = text::plain_line(out, run.end, run.line, answer);
+    on(run, next, end)
 }
 
 // A write, and its line.
 fn reply_write(
-    size: Size,
-    tree: Tree,
+    run: Progress,
     node: &mut [u8],
     row: &mut [u16],
     places: &mut [u8],
@@ -92,194 +114,127 @@ fn reply_write(
     r: Row,
     bytes: &[u8],
     out: &mut [u8],
-    from: usize,
-    k: usize,
-) -> Reply
-    requires { ⌜ from + 12 ≤ length (now out) ⌝ }
-    ensures { λ w. ⌜ Replied (recordsOf size tree (now (node .entry)) (now (row .entry))) (now (places .entry)) (write tag (r .0) (now (bytes .entry))) k (now (out .entry)) from
-        (recordsOf size (w .tree) (now (node .exit)) (now (row .exit))) (now (places .exit)) (now (out .exit)) (w .end) ⌝ }
+) -> Progress
+    requires { ⌜ Room run 12 (now out) ⌝ }
+    ensures { λ w. ⌜ Answered run (now (node .entry)) (now (row .entry)) (now (places .entry)) (write tag (r .0) (now (bytes .entry))) (now (out .entry))
+        w (now (node .exit)) (now (row .exit)) (now (places .exit)) (now (out .exit)) ⌝ }
 {
-    let w = writing::write(size, tree, node, row, places, tag, r, bytes);
+    let tree = run.tree;
+    let w = writing::write(run.size, tree, node, row, places, tag, r, bytes);
     let answer = wide(w.answer);
     let next = w.tree;
-    let end = text::plain_line(out, from, k, answer);
-    Reply { tree: next, end }
+    let end = text::plain_line(out, run.end, run.line, answer);
+    on(run, next, end)
 }
 
 // A count, and its line.
-fn reply_count<'a>(
-    size: Size,
-    tree: Tree,
-    node: &'a [u8],
-    row: &'a [u16],
-    out: &mut [u8],
-    from: usize,
-    k: usize,
-) -> usize
-    requires { ⌜ from + 20 ≤ length (now out) ⌝ }
-    ensures { λ end. ⌜ Replies (recordsOf size tree (now (node .entry)) (now (row .entry))) count k (now (out .entry)) from
-        (recordsOf size tree (now (node .entry)) (now (row .entry))) (now (out .exit)) end ⌝ }
+fn reply_count<'a>(run: Progress, node: &'a [u8], row: &'a [u16], out: &mut [u8]) -> Progress
+    requires { ⌜ Room run 20 (now out) ⌝ }
+    ensures { λ r. ⌜ Answers run (now (node .entry)) (now (row .entry)) count (now (out .entry)) r (now (node .entry)) (now (row .entry)) (now (out .exit)) ⌝ }
 {
-    let c = queries::count(size, tree, node, row);
+    let tree = run.tree;
+    let c = queries::count(run.size, tree, node, row);
     let answer = wide(c.answer);
     if answer != 0 {
-        return text::plain_line(out, from, k, answer);
+        let end = text::plain_line(out, run.end, run.line, answer);
+        return on(run, tree, end);
     }
-    let used = c.used;
-    let snapshots = c.snapshots;
-    text::count_line(out, from, k, used, snapshots)
+    let end = text::count_line(out, run.end, run.line, c.used, c.snapshots);
+    on(run, tree, end)
 }
 
 // A read, and its line.
 fn reply_read<'a>(
-    size: Size,
-    tree: Tree,
+    run: Progress,
     node: &'a [u8],
     row: &'a [u16],
     places: &'a [u8],
     tag: u16,
     r: Row,
     out: &mut [u8],
-    from: usize,
-    k: usize,
-) -> usize
-    requires { ⌜ (from + 20) + 2 * size .width ≤ length (now out) ⌝ }
-    ensures { λ end. ⌜ Replied (recordsOf size tree (now (node .entry)) (now (row .entry))) (now (places .entry)) (read tag (r .0)) k (now (out .entry)) from
-        (recordsOf size tree (now (node .entry)) (now (row .entry))) (now (places .entry)) (now (out .exit)) end ⌝ }
+) -> Progress
+    requires { ⌜ Room run (lineRoom (run .size .width)) (now out) ⌝ }
+    ensures { λ w. ⌜ Answered run (now (node .entry)) (now (row .entry)) (now (places .entry)) (read tag (r .0)) (now (out .entry))
+        w (now (node .entry)) (now (row .entry)) (now (places .entry)) (now (out .exit)) ⌝ }
 {
+    let tree = run.tree;
     let mut number: u8 = 0;
-    let bytes = queries::read(size, tree, node, row, places, tag, r, &mut number);
+    let bytes = queries::read(run.size, tree, node, row, places, tag, r, &mut number);
     let answer = wide(number);
     if answer != 0 {
-        return text::plain_line(out, from, k, answer);
+        let end = text::plain_line(out, run.end, run.line, answer);
+        return on(run, tree, end);
     }
-    text::row_line(out, from, k, bytes)
+    let end = text::row_line(out, run.end, run.line, bytes);
+    on(run, tree, end)
 }
 
-fn going_on(reply: Reply, next: usize) -> Ran
-    ensures { λ r. ⌜ (r .tree ≡ reply .tree) × (r .next ≡ next) × (r .end ≡ reply .end) ⌝ }
+// The last line of a stream that ends badly.
+fn stop(run: Progress, number: u8, out: &mut [u8]) -> Progress
+    requires { ⌜ Room run 12 (now out) ⌝ }
+    ensures { λ r. ⌜ Stopped run number (now (out .entry)) r (now (out .exit)) ⌝ }
 {
-    let tree = reply.tree;
-    let end = reply.end;
-    Ran { tree, next, end }
+    let end = text::plain_line(out, run.end, run.line, wide(number));
+    over(run, end)
 }
 
-// The command at p, and its line. An unknown one, or one that is cut, is the last.
-fn command(
-    size: Size,
-    tree: Tree,
+// What stands at a position of the stream, and its line. An unknown command, or one that is cut, is the last.
+fn serve(
+    run: Progress,
+    step: Step,
+    stream: &[u8],
+    at: usize,
     node: &mut [u8],
     row: &mut [u16],
     places: &mut [u8],
-    stream: &[u8],
-    p: usize,
     out: &mut [u8],
-    from: usize,
-    k: usize,
-) -> Ran
-    requires { ⌜ (p < length (now stream)) × (size .width ≤ 1024) × (from + lineRoom (size .width) ≤ length (now out)) ⌝ }
-    ensures { λ r. ⌜ Ran-one (recordsOf size tree (now (node .entry)) (now (row .entry))) (now (places .entry)) (now (stream .entry)) p k (now (out .entry)) from
-        (recordsOf size (r .tree) (now (node .exit)) (now (row .exit))) (now (places .exit)) (now (out .exit)) (r .next) (r .end) ⌝ }
+) -> Progress
+    requires { ⌜ Ready run step (now stream) at (now out) ⌝ }
+    ensures { λ r. ⌜ Turned run (now (node .entry)) (now (row .entry)) (now (places .entry)) (now (stream .entry)) at (now (out .entry))
+        r (now (node .exit)) (now (row .exit)) (now (places .exit)) (now (out .exit)) (step .next) ⌝ }
 {
-    let width = size.width;
-    let step = commands::command_at(stream, p, width);
-    let next = step.next;
     let found = step.command;
     match found {
-        Command::Snapshot { source, tag } => {
-            let reply = reply_snapshot(size, tree, node, row, source, tag, out, from, k);
-            going_on(reply, next)
-        }
+        Command::Snapshot { source, tag } => reply_snapshot(run, node, row, source, tag, out),
         Command::Read { tag, row: r } => {
-            let end = reply_read(
-                size,
-                tree,
-                node,
-                row,
-                places,
-                tag,
-                Row(wide16(r)),
-                out,
-                from,
-                k,
-            );
-            Ran { tree, next, end }
+            reply_read(run, node, row, places, tag, Row(wide16(r)), out)
         }
         Command::Write { tag, row: r } => {
-            let bytes = &stream[p + 5..p + 5 + width];
-            let reply = reply_write(
-                size,
-                tree,
-                node,
-                row,
-                places,
-                tag,
-                Row(wide16(r)),
-                bytes,
-                out,
-                from,
-                k,
-            );
-            going_on(reply, next)
+            let width = run.size.width;
+            let bytes = &stream[at + 5..at + 5 + width];
+            reply_write(run, node, row, places, tag, Row(wide16(r)), bytes, out)
         }
-        Command::Delete { tag } => {
-            let reply = reply_delete(size, tree, node, row, tag, out, from, k);
-            going_on(reply, next)
-        }
-        Command::Count => {
-            let end = reply_count(size, tree, node, row, out, from, k);
-            Ran { tree, next, end }
-        }
-        Command::Unknown => {
-            let end = text::plain_line(out, from, k, 6);
-            Ran {
-                tree,
-                next: stream.len(),
-                end,
-            }
-        }
-        Command::Cut => {
-            let end = text::plain_line(out, from, k, 7);
-            Ran {
-                tree,
-                next: stream.len(),
-                end,
-            }
-        }
-        Command::Over => Ran {
-            tree,
-            next: stream.len(),
-            end: from,
-        },
+        Command::Delete { tag } => reply_delete(run, node, row, tag, out),
+        Command::Count => reply_count(run, node, row, out),
+        Command::Unknown => stop(run, step.number, out),
+        Command::Cut => stop(run, step.number, out),
+        Command::Over => over(run, run.end),
     }
 }
 
-// Every command of the stream, and its line.
+// Every command of the stream, and its line: from reader to reader.
 fn lines(
-    size: Size,
-    first: Tree,
+    stream: &[u8],
+    width: usize,
+    first: Progress,
     node: &mut [u8],
     row: &mut [u16],
     places: &mut [u8],
-    stream: &[u8],
     out: &mut [u8],
-) -> Reply
-    requires { ⌜ (size .width ≤ 1024) × (length (now stream) ≤ 4096) × (lineRoom (size .width) * length (now stream) ≤ length (now out)) ⌝ }
-    ensures { λ r. ⌜ Through (recordsOf size first (now (node .entry)) (now (row .entry))) (now (places .entry)) (now (stream .entry)) (now (out .entry))
-        (recordsOf size (r .tree) (now (node .exit)) (now (row .exit))) (now (places .exit)) (now (out .exit)) (r .end) ⌝ }
+) -> Progress
+    requires { ⌜ Begins width first (now stream) (now out) ⌝ }
+    ensures { λ r. ⌜ Through first (now (node .entry)) (now (row .entry)) (now (places .entry)) (now (stream .entry)) (now (out .entry))
+        r (now (node .exit)) (now (row .exit)) (now (places .exit)) (now (out .exit)) ⌝ }
 {
-    let mut tree = first;
-    let mut p: usize = 0;
-    let mut end: usize = 0;
-    let mut k: usize = 1;
-    while p < stream.len() {
-        let ran = command(size, tree, node, row, places, stream, p, out, end, k);
-        tree = ran.tree;
-        p = ran.next;
-        end = ran.end;
-        k += 1;
+    let mut reader = commands::make(stream);
+    let mut run = first;
+    while run.going {
+        let step = commands::command_here(reader, width);
+        let next = step.next;
+        run = serve(run, step, reader.stream, reader.at, node, row, places, out);
+        reader = commands::moved(reader, next);
     }
-    Reply { tree, end }
+    run
 }
 
 // The bytes that the lines of n commands take at most, where a row has `width`.
@@ -323,13 +278,19 @@ pub fn run(
     if out.len() < room(width, stream.len()) {
         return refused(2, tree);
     }
-    let reply = lines(size, tree, node, row, places, stream, out);
-    let next = reply.tree;
-    let end = reply.end;
+    let first = Progress {
+        size,
+        tree,
+        end: 0,
+        line: 1,
+        going: true,
+    };
+    let last = lines(stream, width, first, node, row, places, out);
+    let next = last.tree;
     Streamed {
         answer: 0,
         tree: next,
-        end,
+        end: last.end,
     }
 }
 

@@ -6,7 +6,8 @@ use lib.Dec.{ltb}
 use lib.ListN.{length}
 use Rattle.measures.specs.declared.Size.{Size}
 use Rattle.model.specs.Model.{opened}
-use Rattle.text.specs.Text.{line, dash}
+use Rattle.text.specs.Text.{answerLine}
+use Rattle.answers.specs.Answers.{long-stream, refused}
 use Rattle.running.specs.Output.{output}
 
 -- 4 rows of 8 bytes in 6 places
@@ -16,6 +17,6 @@ programSize = record { rows = 4; width = 8; places = 6 }
 unfoldable pub served : List ℕ → List ℕ
 served s = output programSize s (opened programSize)
 
--- a stream of over 4,096 bytes is answered by one line, with the number 0
+-- a stream of over 4,096 bytes is answered by one line, with the number 0 and that of its refusal
 unfoldable pub printed : List ℕ → List ℕ
-printed s = cond (ltb 4096 (length s)) (line 0 8 dash) (served s)
+printed s = cond (ltb 4096 (length s)) (answerLine 0 (refused long-stream)) (served s)

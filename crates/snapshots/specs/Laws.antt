@@ -12,9 +12,9 @@ use Rattle.records.specs.declared.Tree.{Tree}
 use Rattle.records.specs.Records.{Records, snapshots, nodesUsed, version}
 use Rattle.records.specs.Reading.{lives}
 use Rattle.records.specs.Sound.{Sound}
-use Rattle.model.specs.Call.{zero-tag, unknown-tag, tag-alive, snapshots-full}
-use Rattle.model.specs.Model.{Tests, refusal}
-use Rattle.model.specs.Tests.{refusal-here, refusal-next, refusal-none}
+use Rattle.answers.specs.Answers.{zero-tag, unknown-tag, tag-alive, snapshots-full}
+use Rattle.answers.specs.Tests.{Tests, refusal}
+use Rattle.answers.specs.Laws.{refusal-here, refusal-next, refusal-none}
 use Rattle.bound.specs.Bound.{node-room}
 use Rattle.edits.specs.Edits.{grown, hung}
 use Rattle.nodes.specs.Nodes.{emptyNode, firstChild}

@@ -12,8 +12,8 @@ use Rattle.basics.specs.Decide.{at}
 use Rattle.records.specs.Records.{Records, snapshots, version}
 use Rattle.records.specs.Reading.{lives}
 use Rattle.records.specs.Sound.{Sound}
-use Rattle.model.specs.Call.{zero-tag, unknown-tag, tag-alive, snapshots-full}
-use Rattle.model.specs.Tests.{refusal-passed}
+use Rattle.answers.specs.Answers.{zero-tag, unknown-tag, tag-alive, snapshots-full}
+use Rattle.answers.specs.Laws.{refusal-passed}
 use Rattle.edits.specs.Edits.{withTree, Whole, Copied}
 use Rattle.edits.specs.Solve.{lives-node}
 use Rattle.edits.specs.Snapshots.{copy-snapshot, copy-first, copy-origin}

@@ -8,8 +8,8 @@ use lib.Dec.{eqb, leb}
 use Rattle.records.specs.declared.Tree.{Tree}
 use Rattle.records.specs.Records.{Records, snapshots, version}
 use Rattle.records.specs.Reading.{lives}
-use Rattle.model.specs.Call.{Refusal, zero-tag, unknown-tag, tag-alive, snapshots-full, unsound, number}
-use Rattle.model.specs.Model.{Tests, refusal}
+use Rattle.answers.specs.Answers.{Refusal, zero-tag, unknown-tag, tag-alive, snapshots-full, unsound, number}
+use Rattle.answers.specs.Tests.{Tests, refusal}
 use Rattle.soundness.specs.Judged.{Judged, Leaves}
 use Rattle.edits.specs.Edits.{grown, hung}
 use Rattle.nodes.specs.Nodes.{emptyNode, firstChild}

@@ -4,8 +4,8 @@ use mathlib.Core.Option.{Option, none, some}
 use Prim.Native.Nat.{ℕ}
 use Rattle.records.specs.Records.{Records}
 use Rattle.records.specs.Sound.{Sound}
-use Rattle.model.specs.Call.{Refusal, done, refused, number, numberOf}
-use Rattle.model.specs.Model.{unless}
+use Rattle.answers.specs.Answers.{Refusal, done, refused, number, numberOf}
+use Rattle.answers.specs.Tests.{unless}
 
 -- what holds of a call on sound records, and on others
 pub record Judged (z : Records) (Yes No : Type 0) : Type 0 where

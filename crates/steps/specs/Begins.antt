@@ -11,9 +11,10 @@ use Rattle.measures.specs.declared.Size.{Size}
 use Rattle.measures.specs.Measures.{Within}
 use Rattle.records.specs.declared.Tree.{Tree}
 use Rattle.records.specs.Records.{Records, recordsOf}
-use Rattle.model.specs.Call.{Refusal, bad-size, bad-length, done, refused, numberOf}
-use Rattle.model.specs.Model.{opened, openTests, inMeasure, unless}
-use Rattle.model.specs.Tests.{refusal-passed, measure-in}
+use Rattle.answers.specs.Answers.{Refusal, bad-size, bad-length, done, refused, numberOf}
+use Rattle.model.specs.Model.{opened}
+use Rattle.answers.specs.Tests.{openTests, inMeasure, unless}
+use Rattle.answers.specs.Laws.{refusal-passed, measure-in}
 use Rattle.edits.specs.Edits.{Whole}
 use Rattle.opening.specs.Opening.{firstTree, openVerdict, Opening}
 use Rattle.opening.specs.First.{first-sound}

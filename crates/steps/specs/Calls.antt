@@ -5,7 +5,8 @@ use mathlib.Core.List.{List}
 use Prim.Native.Nat.{ℕ}
 use Rattle.records.specs.declared.Tree.{Tree}
 use Rattle.records.specs.Records.{Records}
-use Rattle.model.specs.Call.{snapshot, read, write, delete, count, numberOf, rowOf, usedOf, snapshotsOf}
+use Rattle.model.specs.Call.{snapshot, read, write, delete, count}
+use Rattle.answers.specs.Answers.{numberOf, rowOf, usedOf, snapshotsOf}
 use Rattle.model.specs.Model.{Model, answer, after}
 use Rattle.agreement.specs.Steps.{step-agree}
 use Rattle.soundness.specs.Judged.{Leaves}

@@ -13,9 +13,11 @@ use Rattle.measures.specs.declared.Size.{Size}
 use Rattle.measures.specs.Measures.{bytesAt}
 use Rattle.records.specs.Records.{Records, recordsOf, Snapshot, version}
 use Rattle.records.specs.Reading.{lives, tagPlace}
-use Rattle.model.specs.Call.{delete, Refusal, done, refused, origin-tag, unknown-tag}
-use Rattle.model.specs.Model.{alive, tests, accepted, unless, without}
-use Rattle.model.specs.Tests.{refusal-passed}
+use Rattle.model.specs.Call.{delete}
+use Rattle.answers.specs.Answers.{Refusal, done, refused, origin-tag, unknown-tag}
+use Rattle.model.specs.Model.{alive, tests, accepted, without}
+use Rattle.answers.specs.Tests.{unless}
+use Rattle.answers.specs.Laws.{refusal-passed}
 use Rattle.agreement.specs.Agree.{Alike, Effect, mapVerdict, mapAnswer, Step}
 use Rattle.agreement.specs.Living.{alive-gone, alive-stays}
 use Rattle.edits.specs.Edits.{Whole}

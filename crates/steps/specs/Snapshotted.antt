@@ -13,8 +13,10 @@ use Rattle.measures.specs.Measures.{bytesAt}
 use Rattle.records.specs.declared.Tree.{Tree}
 use Rattle.records.specs.Records.{Records, version}
 use Rattle.records.specs.Reading.{lives, tagPlace}
-use Rattle.model.specs.Call.{snapshot, Refusal, done, refused}
-use Rattle.model.specs.Model.{alive, tests, accepted, unless, adopt}
+use Rattle.model.specs.Call.{snapshot}
+use Rattle.answers.specs.Answers.{Refusal, done, refused}
+use Rattle.model.specs.Model.{alive, tests, accepted, adopt}
+use Rattle.answers.specs.Tests.{unless}
 use Rattle.agreement.specs.Agree.{Alike, Effect, mapVerdict, mapAnswer, Step}
 use Rattle.agreement.specs.Living.{alive-cons}
 use Rattle.edits.specs.Edits.{withTree, Whole, Copied, grown}

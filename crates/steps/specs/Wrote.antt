@@ -12,8 +12,10 @@ use borrow.Author.Tests.{eq-eqb, ne-eqb}
 use Rattle.measures.specs.declared.Size.{Size}
 use Rattle.records.specs.Records.{Records, recordsOf, table}
 use Rattle.records.specs.Reading.{place, lives, tagPlace}
-use Rattle.model.specs.Call.{write, Refusal, done, refused}
-use Rattle.model.specs.Model.{shared, accepted, unless}
+use Rattle.model.specs.Call.{write}
+use Rattle.answers.specs.Answers.{Refusal, done, refused}
+use Rattle.model.specs.Model.{shared, accepted}
+use Rattle.answers.specs.Tests.{unless}
 use Rattle.agreement.specs.Agree.{Live, Alike, Free, Write, in-place, to-free, saving, Effect, mapAnswer, Step}
 use Rattle.agreement.specs.Counting.{shared-some}
 use Rattle.edits.specs.Edits.{Whole, FreeEntry}

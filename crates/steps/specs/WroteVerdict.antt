@@ -10,9 +10,11 @@ use borrow.Author.Tests.{eq-eqb, eqb-true, leb-false, not-false}
 use Rattle.basics.specs.Decide.{not-no}
 use Rattle.records.specs.Records.{Records, table, used, version}
 use Rattle.records.specs.Reading.{lives}
-use Rattle.model.specs.Call.{write, Refusal, bad-length, bad-row, unknown-tag, places-full}
-use Rattle.model.specs.Model.{shared, placesUsed, Tests, refusal, tests}
-use Rattle.model.specs.Tests.{refusal-next, refusal-passed}
+use Rattle.model.specs.Call.{write}
+use Rattle.answers.specs.Answers.{Refusal, bad-length, bad-row, unknown-tag, places-full}
+use Rattle.model.specs.Model.{shared, placesUsed, tests}
+use Rattle.answers.specs.Tests.{Tests, refusal}
+use Rattle.answers.specs.Laws.{refusal-next, refusal-passed}
 use Rattle.agreement.specs.Agree.{mapVerdict}
 use Rattle.edits.specs.Solve.{lives-node}
 use Rattle.sharing.specs.Sharing.{sharedAt}

@@ -3,7 +3,7 @@ use mathlib.Core.Bool.{cond}
 use mathlib.Core.List.{List, [], _∷_, _++_}
 use Prim.Native.Nat.{ℕ, _+_, _/_, _%_}
 use lib.Dec.{ltb}
-use Rattle.model.specs.Call.{Answer, done, row, counts, refused, numberOf}
+use Rattle.answers.specs.Answers.{Answer, done, row, counts, refused, numberOf}
 
 -- the code of a digit below 16: 0 to 9, then a to f
 unfoldable pub digit : ℕ → ℕ

@@ -1,34 +1,66 @@
--- The marked cases as a table, one theorem that runs down it by evaluation of the reference model, and by THE THEOREM the same of every store. Assumes nothing.
-use mathlib.Core.Path.{_≡_, refl, _∙_}
+-- The marked cases as one table (SPEC 11.1): an opening and its number, then calls and what each hands out. One theorem runs down it by evaluation
+-- of the reference model, and one carries each line to every store, through the promises of the opening and of the calls. Assumes nothing.
+use mathlib.Core.Path.{_≡_, refl, sym, _∙_}
 use mathlib.Core.List.{List, [], _∷_, map}
-use mathlib.Core.Option.{none, some}
 use Prim.Native.Nat.{ℕ}
-use lib.ListN.{replicate}
+use lib.ListN.{length, replicate}
 use Rattle.measures.specs.declared.Size.{Size}
 use Rattle.records.specs.declared.Tree.{Tree}
 use Rattle.records.specs.Records.{recordsOf}
-use Rattle.model.specs.Call.{Call, snapshot, read, write, delete, count, bad-size}
-use Rattle.model.specs.Model.{any, different, alive, snapshotsAlive, shared, placesUsed, refusal, inMeasure, openTests, tests, accepted, adopt, put, without, effect, opened, verdict, answer, after, answers}
+use Rattle.answers.specs.Tests.{refusal, verdictNumber, inMeasure, openTests}
+use Rattle.answers.specs.Laws.{verdict-none}
+use Rattle.model.specs.Call.{Call, snapshot, read, write, delete, count}
+use Rattle.model.specs.Model.{any, different, alive, snapshotsAlive, shared, placesUsed, tests, accepted, adopt, put, without, effect, opened, verdict, answer, after, answers}
 use Rattle.opening.specs.Opening.{openVerdict, Opening}
 use Rattle.theorem.specs.Trace.{State, state, Handed, handed, Trace, handedOf}
 use Rattle.theorem.specs.Theorem.{theorem-opened}
 
--- calls on a store fresh from its opening, and what each hands out
 pub record Case : Type 0 where
+  -- the opening: its measures, and how long the lent buffers are: bytes of places, entries of each half of the table, bytes of records from C
   pub size : Size
+  pub places : ℕ
+  pub entries : ℕ
+  pub records : ℕ
+  -- the opening's number; the calls on what it left, none if it is refused; and what each hands out
+  pub opens : ℕ
   pub calls : List Call
   pub hands : List Handed
 
+-- the model's opening gets the number, and the model hands out what the line says
 abbrev pub Meets : Case → Type 0
-Meets c = map handedOf (answers (c .size) (opened (c .size)) (c .calls)) ≡ c .hands
+Meets c =
+    (verdictNumber (refusal (openTests (c .size) (c .places) (c .entries) (c .entries))) ≡ c .opens)
+    × (map handedOf (answers (c .size) (opened (c .size)) (c .calls)) ≡ c .hands)
 
 abbrev pub AllMeet : List Case → Type 0
 AllMeet [] = Unit {0}
 AllMeet (c ∷ cs) = Meets c × AllMeet cs
 
--- L = 4, B = 8, P = 6
-abbrev small : Size
-small = record { rows = 4; width = 8; places = 6 }
+-- The table
+
+-- an opening of L, B and P that is refused
+abbrev turned : ℕ → ℕ → ℕ → ℕ → ℕ → ℕ → ℕ → Case
+turned l b p places entries records number = record {
+  size = record { rows = l; width = b; places = p };
+  places = places;
+  entries = entries;
+  records = records;
+  opens = number;
+  calls = [];
+  hands = [];
+}
+
+-- calls on L = 4, B = 8, P = 6
+abbrev on : List Call → List Handed → Case
+on cs hs = record {
+  size = record { rows = 4; width = 8; places = 6 };
+  places = 48;
+  entries = 2;
+  records = 524;
+  opens = 0;
+  calls = cs;
+  hands = hs;
+}
 
 abbrev eight : ℕ → List ℕ
 eight b = replicate 8 b
@@ -43,13 +75,14 @@ reads bs = handed 0 bs 0 0
 abbrev counted : ℕ → ℕ → Handed
 counted u a = handed 0 [] u a
 
-abbrev on : List Call → List Handed → Case
-on cs hs = record { size = small; calls = cs; hands = hs }
-
 abbrev pub cases : List Case
 cases =
+    -- L = 0; L = 1025; P = L - 1
+    turned 0 8 6 48 6 536 1
+    ∷ turned 1025 8 2000 16000 975 3443 1
+    ∷ turned 4 8 3 24 0 518 1
     -- after opening: the last row is zero, and there is no row after it
-    on (read 0 3 ∷ []) (reads (eight 0) ∷ [])
+    ∷ on (read 0 3 ∷ []) (reads (eight 0) ∷ [])
     ∷ on (read 0 4 ∷ []) (says 3 ∷ [])
     -- the tags of a snapshot: 0; itself, not alive; itself, alive
     ∷ on (snapshot 0 0 ∷ []) (says 4 ∷ [])
@@ -58,50 +91,29 @@ cases =
     -- a snapshot of a snapshot keeps its rows, and its deletion leaves the other's
     ∷ on (snapshot 0 7 ∷ snapshot 7 8 ∷ write 7 0 (eight 1) ∷ read 8 0 ∷ count ∷ delete 8 ∷ read 7 0 ∷ count ∷ [])
     (says 0 ∷ says 0 ∷ says 0 ∷ reads (eight 0) ∷ counted 5 2 ∷ says 0 ∷ reads (eight 1) ∷ counted 5 1 ∷ [])
-    -- every place in use: a shared row is refused, a row of one's own is not; a deletion gives its places back
-    ∷ on (snapshot 0 7 ∷ write 7 0 (eight 1) ∷ write 7 1 (eight 1) ∷ write 7 2 (eight 1) ∷ write 7 0 (eight 2) ∷ delete 7 ∷ snapshot 0 9 ∷ write 9 2 (eight 1) ∷ [])
-    (says 0 ∷ says 0 ∷ says 0 ∷ says 24 ∷ says 0 ∷ says 0 ∷ says 0 ∷ says 0 ∷ [])
+    -- every place in use: a shared row is refused, a row of one's own is not, the origin's alike; a deletion gives its places back
+    ∷ on
+    (snapshot 0 7 ∷ write 7 0 (eight 1) ∷ write 7 1 (eight 1) ∷ write 7 2 (eight 1) ∷ write 7 0 (eight 2) ∷ write 0 2 (eight 3) ∷ write 0 0 (eight 3)
+    ∷ delete 7 ∷ snapshot 0 9 ∷ write 9 2 (eight 1) ∷ [])
+    (says 0 ∷ says 0 ∷ says 0 ∷ says 24 ∷ says 0 ∷ says 24 ∷ says 0 ∷ says 0 ∷ says 0 ∷ says 0 ∷ [])
     ∷ []
 
 pub cases-met : AllMeet cases
-unfolding any different alive snapshotsAlive shared placesUsed refusal tests accepted adopt put without effect opened verdict answer after answers
-cases-met = (refl, (refl, (refl, (refl, (refl, (refl, (refl, tt)))))))
+unfolding any different alive snapshotsAlive shared placesUsed refusal inMeasure openTests tests accepted adopt put without effect opened verdict answer after answers
+cases-met = ((refl, refl), ((refl, refl), ((refl, refl), ((refl, refl), ((refl, refl), ((refl, refl), ((refl, refl), ((refl, refl), ((refl, refl), ((refl, refl), tt))))))))))
 
--- so every store that an accepted opening left hands out what the table says
-pub case-runs : (c : Case) → Meets c → (places nodes rows : List ℕ) (number : ℕ) (tree : Tree) (places′ nodes′ rows′ : List ℕ)
-    → Opening (c .size) places nodes rows number tree places′ nodes′ rows′ → openVerdict (c .size) places nodes rows ≡ none
-    → {hs : List Handed} {s′ : State} → Trace (state (recordsOf (c .size) tree nodes′ rows′) places′) (c .calls) hs s′ → hs ≡ c .hands
-case-runs c met places nodes rows number tree places′ nodes′ rows′ o v t = theorem-opened (c .size) places nodes rows number tree places′ nodes′ rows′ o v t .0 ∙ met
+-- buffers of a line's lengths
+pub record Lent (c : Case) (p n r : List ℕ) : Type 0 where
+  pub bytes : length p ≡ c .places
+  pub nodes : length n ≡ c .entries
+  pub rows : length r ≡ c .entries
 
--- The openings: measures, and the lengths of the lent places and of the two halves of the table
-
-pub record Opens : Type 0 where
-  pub size : Size
-  pub places : ℕ
-  pub nodes : ℕ
-  pub rows : ℕ
-
--- refused for its measures
-abbrev pub BadSize : Opens → Type 0
-BadSize o = refusal (openTests (o .size) (o .places) (o .nodes) (o .rows)) ≡ some bad-size
-
-abbrev pub AllBad : List Opens → Type 0
-AllBad [] = Unit {0}
-AllBad (o ∷ os) = BadSize o × AllBad os
-
-abbrev lent : ℕ → ℕ → ℕ → ℕ → ℕ → Opens
-lent l b p n k = record { size = record { rows = l; width = b; places = p }; places = n; nodes = k; rows = k }
-
-abbrev pub openings : List Opens
-openings =
-    -- L = 0
-    lent 0 8 6 48 6
-    -- L = 1025
-    ∷ lent 1025 8 2000 16000 975
-    -- P = L - 1
-    ∷ lent 4 8 3 24 0
-    ∷ []
-
-pub openings-refused : AllBad openings
-unfolding refusal openTests inMeasure
-openings-refused = (refl, (refl, (refl, tt)))
+-- so every opening of such buffers gets the line's number, and the calls on what it left hand out what the line says
+pub case-runs : (c : Case) → Meets c → (places nodes rows : List ℕ) → Lent c places nodes rows → (number : ℕ) (tree : Tree) (places′ nodes′ rows′ : List ℕ)
+    → Opening (c .size) places nodes rows number tree places′ nodes′ rows′
+    → (number ≡ c .opens) × (number ≡ 0 → (hs : List Handed) (s′ : State) → Trace (state (recordsOf (c .size) tree nodes′ rows′) places′) (c .calls) hs s′ → hs ≡ c .hands)
+unfolding openVerdict
+case-runs c met places nodes rows lent number tree places′ nodes′ rows′ o = (
+  o .answers ∙ rw (lent .bytes, lent .nodes, lent .rows) (met .0),
+  λ e hs s′ t. theorem-opened (c .size) places nodes rows number tree places′ nodes′ rows′ o (verdict-none (openVerdict (c .size) places nodes rows) (sym (o .answers) ∙ e)) t .0 ∙ met .1,
+)

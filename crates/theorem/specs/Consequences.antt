@@ -1,5 +1,5 @@
 -- What follows from the reference model: when a write and a snapshot are accepted, what a delete leaves alone, that 20 is never answered, and that
--- a version reads as it was left. Assumes nothing.
+-- a version lives on and reads as it was left. Stores.antt says the same of stores. Assumes nothing.
 use mathlib.Core.Path.{_≡_, refl, sym, _∙_, ap}
 use mathlib.Core.Logic.{_≢_, _↔_}
 use mathlib.Core.Bool.{Bool, true, false, not, _&&_, false≢true}
@@ -12,30 +12,19 @@ use lib.ListN.{length}
 use borrow.Author.Tests.{eq-eqb, ne-eqb, eqb-false, le-leb, lt-leb, leb-true, leb-false, not-false}
 use Rattle.basics.specs.Decide.{and-yes, both}
 use Rattle.measures.specs.declared.Size.{Size}
-use Rattle.model.specs.Call.{Call, snapshot, read, write, delete, count, Refusal, bad-size, bad-length, bad-row, zero-tag, origin-tag, unsound, unknown-tag, tag-alive, snapshots-full, places-full, number, Answer, done, row, refused, numberOf}
-use Rattle.model.specs.Model.{Cell, Model, alive, snapshotsAlive, shared, placesUsed, Tests, orElse, refusal, tests, accepted, unless, adopt, effect, verdict, answer, after, final}
-use Rattle.model.specs.Tests.{refusal-next, refusal-none}
-use Rattle.agreement.specs.Living.{alive-stays}
+use Rattle.model.specs.Call.{Call, snapshot, read, write, delete, count}
+use Rattle.answers.specs.Answers.{Refusal, places-full, number, Answer, done, row, refused, numberOf}
+use Rattle.model.specs.Model.{Cell, Model, alive, snapshotsAlive, shared, placesUsed, tests, accepted, adopt, effect, verdict, answer, after, final}
+use Rattle.answers.specs.Tests.{Tests, orElse, refusal, unless}
+use Rattle.answers.specs.Laws.{refusal-next, refusal-none, number-some}
+use Rattle.agreement.specs.Living.{alive-cons, alive-stays}
 use Rattle.agreement.specs.Updates.{put-off}
 use Rattle.agreement.specs.Verdicts.{none-passed}
 
--- Numbers: a refusal has one above 0, so an answer of 0 is no refusal
-
-positive : (r : Refusal) → 0 < number r
-positive bad-size = omega arith
-positive bad-length = omega arith
-positive bad-row = omega arith
-positive zero-tag = omega arith
-positive origin-tag = omega arith
-positive unsound = omega arith
-positive unknown-tag = omega arith
-positive tag-alive = omega arith
-positive snapshots-full = omega arith
-positive places-full = omega arith
-
+-- an answer of 0 is no refusal
 not-refused : (v : Option Refusal) (a : Answer) → numberOf (unless v refused a) ≡ 0 → v ≡ none
 not-refused none a e = refl
-not-refused (some r) a e = absurd (omega (arith, positive r))
+not-refused (some r) a e = absurd (number-some r e)
 
 -- the last test of a write alone
 full-iff : (b : Bool) → numberOf (unless (refusal ((b, places-full) ∷ [])) refused done) ≡ 24 ↔ b ≡ true
@@ -160,7 +149,29 @@ after-spares z m u r c h = go (verdict z m c)
     go none = effect-spares m u r c h
     go (some x) = refl
 
--- a version reads as when it was last changed: calls that neither write it, delete it nor take its tag leave its rows
+-- and it lives as before
+effect-lives : (m : Model) (u : ℕ) (c : Call) → Spares u c → alive (effect m c .snapshots) u ≡ alive (m .snapshots) u
+unfolding effect
+effect-lives m u (snapshot s t) h = alive-cons (m .snapshots) t u ∙ rw (ne-eqb u t (λ e. h (sym e)))
+effect-lives m u (read t k) h = refl
+effect-lives m u (write t k bs) h = refl
+effect-lives m u (delete t) h = alive-stays (m .snapshots) t u (λ e. h (sym e))
+effect-lives m u count h = refl
+
+after-lives : (z : Size) (m : Model) (u : ℕ) (c : Call) → Spares u c → alive (after z m c .snapshots) u ≡ alive (m .snapshots) u
+unfolding after
+after-lives z m u c h = go (verdict z m c)
+  where
+    go : (v : Option Refusal) → alive (unless v (λ x. m) (effect m c) .snapshots) u ≡ alive (m .snapshots) u
+    go none = effect-lives m u c h
+    go (some x) = refl
+
+-- a version reads as when it was last changed: calls that neither write it, delete it nor take its tag leave it alive and leave its rows
+pub lives-on : (z : Size) (u : ℕ) (cs : List Call) (m : Model) → AllSpare u cs → alive (final z m cs .snapshots) u ≡ alive (m .snapshots) u
+unfolding final
+lives-on z u [] m h = refl
+lives-on z u (c ∷ cs) m h = lives-on z u cs (after z m c) (h .1) ∙ after-lives z m u c (h .0)
+
 pub reads-as-left : (z : Size) (u : ℕ) (cs : List Call) (m : Model) → AllSpare u cs → (r : ℕ) → final z m cs .bytes (u, r) ≡ m .bytes (u, r)
 unfolding final
 reads-as-left z u [] m h r = refl

@@ -1,4 +1,6 @@
 pub mod Trace
 pub mod Theorem
+pub mod Leaving
 pub mod Cases
 pub mod Consequences
+pub mod Stores

@@ -7,8 +7,10 @@ use Prim.Native.Nat.{ℕ}
 use Rattle.measures.specs.declared.Size.{Size}
 use Rattle.records.specs.declared.Tree.{Tree}
 use Rattle.records.specs.Records.{Records, recordsOf}
-use Rattle.model.specs.Call.{Call, snapshot, read, write, delete, count, Refusal, Answer, done, row, refused, rowOf, usedOf, snapshotsOf}
-use Rattle.model.specs.Model.{Model, opened, verdict, answer, after, answers, final, unless, accepted}
+use Rattle.model.specs.Call.{Call, snapshot, read, write, delete, count}
+use Rattle.answers.specs.Answers.{Refusal, Answer, done, row, refused, rowOf, usedOf, snapshotsOf}
+use Rattle.model.specs.Model.{Model, placesUsed, opened, verdict, answer, after, answers, final, accepted}
+use Rattle.answers.specs.Tests.{unless}
 use Rattle.agreement.specs.Steps.{used-agree}
 use Rattle.edits.specs.Edits.{Whole}
 use Rattle.opening.specs.Opening.{openVerdict, Opening}
@@ -81,23 +83,27 @@ one-call {z} {places} {m} run (count-ends {number = number} {inUse = inUse} {ali
     (handed-same n (sym (count-plain (z .size) m)) i l, refl, u)
 
 -- a store that runs equals its model
-runs-equal : (z : Records) (places : List ℕ) (m : Model) → Runs z places m → Equals (state z places) m
+pub runs-equal : (size : Size) (s : State) (m : Model) → s .records .size ≡ size → Runs (s .records) (s .places) m → Equals size s m
 unfolding rowOfTag view
-runs-equal z places m run =
-    let s = run .store .sound in
+runs-equal size s m e run =
+    let k = run .store .sound in
     let a = run .agrees in
     record {
-      living = λ t. sym (view-alive z s places t) ∙ a .tags t;
-      rows = λ t r h l. a .bytes (t, r) (h, l);
-      inUse = sym (view-used z s places) ∙ used-agree (z .size) a;
+      sized = e;
+      store = run .store;
+      whole = run .whole;
+      living = λ t. sym (view-alive (s .records) k (s .places) t) ∙ a .tags t;
+      rows = λ t r h l. a .bytes (t, r) (h, rw e l);
+      sharing = λ t u r h g l. a .names (t, r) (u, r) (h, rw e l) (g, rw e l);
+      inUse = sym (view-used (s .records) k (s .places)) ∙ used-agree (s .records .size) a ∙ ap (λ (x : Size). placesUsed (x .rows) (m .snapshots) (m .mark)) e;
     }
 
 -- any list of calls
 module _ (size : Size) where
   pub any-list : {s s′ : State} {m : Model} {cs : List Call} {hs : List Handed} → s .records .size ≡ size → Runs (s .records) (s .places) m → Trace s cs hs s′
-      → (hs ≡ map handedOf (answers size m cs)) × Equals s′ (final size m cs)
+      → (hs ≡ map handedOf (answers size m cs)) × Equals size s′ (final size m cs)
   unfolding answers final
-  any-list e run over = (refl, runs-equal _ _ _ run)
+  any-list e run over = (refl, runs-equal size _ _ e run)
   any-list {m = m} e run (then {c = c} k rest) =
       let (h, z, next) = one-call run k in
       let (hs, last) = any-list (z ∙ e) (rw e at next) rest in
@@ -107,11 +113,11 @@ module _ (size : Size) where
 pub theorem-opened : (size : Size) (places nodes rows : List ℕ) (number : ℕ) (tree : Tree) (places′ nodes′ rows′ : List ℕ)
     → Opening size places nodes rows number tree places′ nodes′ rows′ → openVerdict size places nodes rows ≡ none
     → {cs : List Call} {hs : List Handed} {s′ : State} → Trace (state (recordsOf size tree nodes′ rows′) places′) cs hs s′
-    → (hs ≡ map handedOf (answers size (opened size) cs)) × Equals s′ (final size (opened size) cs)
+    → (hs ≡ map handedOf (answers size (opened size) cs)) × Equals size s′ (final size (opened size) cs)
 theorem-opened size places nodes rows number tree places′ nodes′ rows′ o v t = any-list size refl (open-call size places nodes rows number tree places′ nodes′ rows′ o v .1) t
 
 -- From sound records with P × B bytes of places, whose arrays are whole
 pub theorem-sound : (z : Records) (places : List ℕ) → Store z places → Whole (z .tree)
     → {cs : List Call} {hs : List Handed} {s′ : State} → Trace (state z places) cs hs s′
-    → (hs ≡ map handedOf (answers (z .size) (started z places) cs)) × Equals s′ (final (z .size) (started z places) cs)
+    → (hs ≡ map handedOf (answers (z .size) (started z places) cs)) × Equals (z .size) s′ (final (z .size) (started z places) cs)
 theorem-sound z places st w t = any-list (z .size) refl (start-call z places st w) t

@@ -1,17 +1,23 @@
 -- Lists of calls on a store, each by the promise of the function that runs. Definitions only. Assumes nothing.
 use mathlib.Core.Path.{_≡_}
+use mathlib.Core.Logic.{_↔_}
 use mathlib.Core.Bool.{true}
 use mathlib.Core.List.{List, [], _∷_}
 use Prim.Native.Nat.{ℕ, _<_}
+use Rattle.measures.specs.declared.Size.{Size}
 use Rattle.records.specs.declared.Tree.{Tree}
 use Rattle.records.specs.Records.{Records, recordsOf, table, used}
-use Rattle.records.specs.Reading.{lives}
-use Rattle.model.specs.Call.{Call, snapshot, read, write, delete, count, Answer, numberOf, rowOf, usedOf, snapshotsOf}
+use Rattle.records.specs.Reading.{lives, tagPlace}
+use Rattle.model.specs.Call.{Call, snapshot, read, write, delete, count}
+use Rattle.answers.specs.Answers.{Answer, numberOf, rowOf, usedOf, snapshotsOf}
+use Rattle.answers.specs.Tests.{unless}
 use Rattle.model.specs.Model.{Model, alive, placesUsed}
 use Rattle.queries.specs.Queries.{CountEnds, ReadEnds, rowOfTag}
-use Rattle.snapshots.specs.Taking.{SnapshotEnds}
-use Rattle.writing.specs.Writing.{Held, WriteEnds}
-use Rattle.deleting.specs.Deleting.{Left, DeleteEnds}
+use Rattle.edits.specs.Edits.{withTree, Whole}
+use Rattle.view.specs.View.{Store}
+use Rattle.snapshots.specs.Taking.{snapshotVerdict, snapshotTree, SnapshotEnds}
+use Rattle.writing.specs.Writing.{Held, writeVerdict, written, WriteEnds}
+use Rattle.deleting.specs.Deleting.{Left, deleteVerdict, deleted, DeleteEnds}
 
 -- the records and the bytes of the places, as one call leaves them for the next
 pub record State : Type 0 where
@@ -20,6 +26,13 @@ pub record State : Type 0 where
 
 abbrev pub state : Records → List ℕ → State
 state z places = record { records = z; places = places }
+
+-- what a write leaves, and a delete, as a state
+abbrev pub stateHeld : Size → Held → State
+stateHeld size h = state (recordsOf size (h .tree) (h .node) (h .row)) (h .places)
+
+abbrev pub stateLeft : Size → Left → List ℕ → State
+stateLeft size l places = state (recordsOf size (l .tree) (l .node) (l .row)) places
 
 -- what a call hands its caller: a number, a row (else none), two counts (else zero)
 pub record Handed : Type 0 where
@@ -35,12 +48,12 @@ handed number bytes inUse alive = record { number = number; bytes = bytes; inUse
 -- writing::write, deleting::delete and queries::count say, with nothing in between
 pub data Call-ends (z : Records) (places : List ℕ) : Call → Handed → State → Type 0 where
   snapshot-ends : {source new number : ℕ} {tree : Tree} → SnapshotEnds z source new number tree
-      → Call-ends z places (snapshot source new) (handed number [] 0 0) (state (recordsOf (z .size) tree (z .node) (z .row)) places)
+      → Call-ends z places (snapshot source new) (handed number [] 0 0) (state (withTree z tree) places)
   read-ends : {tag r number : ℕ} {bytes : List ℕ} → ReadEnds z places tag r number bytes → Call-ends z places (read tag r) (handed number bytes 0 0) (state z places)
   write-ends : {tag r number : ℕ} {bs : List ℕ} {got : Held} → WriteEnds z places tag r bs number got
-      → Call-ends z places (write tag r bs) (handed number [] 0 0) (state (recordsOf (z .size) (got .tree) (got .node) (got .row)) (got .places))
+      → Call-ends z places (write tag r bs) (handed number [] 0 0) (stateHeld (z .size) got)
   delete-ends : {tag number : ℕ} {got : Left} → DeleteEnds z tag number got
-      → Call-ends z places (delete tag) (handed number [] 0 0) (state (recordsOf (z .size) (got .tree) (got .node) (got .row)) places)
+      → Call-ends z places (delete tag) (handed number [] 0 0) (stateLeft (z .size) got places)
   count-ends : {number inUse alive : ℕ} → CountEnds z number inUse alive → Call-ends z places count (handed number [] inUse alive) (state z places)
 
 -- a list of calls, each given what the one before left, refused or not
@@ -48,13 +61,33 @@ pub data Trace : State → List Call → List Handed → State → Type 0 where
   over : {s : State} → Trace s [] [] s
   then : {s u s′ : State} {c : Call} {h : Handed} {cs : List Call} {hs : List Handed} → Call-ends (s .records) (s .places) c h u → Trace u cs hs s′ → Trace s (c ∷ cs) (h ∷ hs) s′
 
+-- What a list of calls leaves, outright: a call that a test refuses leaves the state as it was
+
+unfoldable pub leaves : State → Call → State
+leaves s (snapshot source new) =
+    unless (snapshotVerdict (s .records) source new) (λ x. s) (state (withTree (s .records) (snapshotTree (s .records .tree) source new)) (s .places))
+leaves s (read tag r) = s
+leaves s (write tag r bs) = unless (writeVerdict (s .records) (s .places) tag r bs) (λ x. s) (stateHeld (s .records .size) (written (s .records) (s .places) tag r bs))
+leaves s (delete tag) = unless (deleteVerdict (s .records) tag) (λ x. s) (stateLeft (s .records .size) (deleted (s .records) tag) (s .places))
+leaves s count = s
+
+unfoldable pub leftBy : State → List Call → State
+leftBy s [] = s
+leftBy s (c ∷ cs) = leftBy (leaves s c) cs
+
 -- what the reference model hands out for an answer
 abbrev pub handedOf : Answer → Handed
 handedOf a = handed (numberOf a) (rowOf a) (usedOf a) (snapshotsOf a)
 
--- a store as the model has it: the same tags live, every row of every living version reads the model's bytes, and as many places are in use as
--- there are different marks
-pub record Equals (s : State) (m : Model) : Type 0 where
+-- a store as the model has it: sound records of the size that they began with, and as many bytes as that asks for; the same tags live; every row
+-- of every living version reads the model's bytes; two versions read a row from one place exactly if they have one mark there; and as many places
+-- are in use as there are different marks
+pub record Equals (size : Size) (s : State) (m : Model) : Type 0 where
+  pub sized : s .records .size ≡ size
+  pub store : Store (s .records) (s .places)
+  pub whole : Whole (s .records .tree)
   pub living : (t : ℕ) → lives (s .records) t ≡ alive (m .snapshots) t
-  pub rows : (t r : ℕ) → alive (m .snapshots) t ≡ true → r < s .records .size .rows → rowOfTag (s .records) (s .places) t r ≡ m .bytes (t, r)
-  pub inUse : used (table (s .records)) ≡ placesUsed (s .records .size .rows) (m .snapshots) (m .mark)
+  pub rows : (t r : ℕ) → alive (m .snapshots) t ≡ true → r < size .rows → rowOfTag (s .records) (s .places) t r ≡ m .bytes (t, r)
+  pub sharing : (t u r : ℕ) → alive (m .snapshots) t ≡ true → alive (m .snapshots) u ≡ true → r < size .rows
+      → (tagPlace (s .records) t r ≡ tagPlace (s .records) u r) ↔ (m .mark (t, r) ≡ m .mark (u, r))
+  pub inUse : used (table (s .records)) ≡ placesUsed (size .rows) (m .snapshots) (m .mark)

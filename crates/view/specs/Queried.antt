@@ -9,9 +9,11 @@ use Rattle.basics.specs.Decide.{not-no}
 use Rattle.measures.specs.declared.Size.{Size}
 use Rattle.records.specs.Records.{Records}
 use Rattle.queries.specs.Queries.{readTests, rowOfTag, readAnswer, countAnswer}
-use Rattle.model.specs.Call.{read, count, Refusal, bad-length, counts}
-use Rattle.model.specs.Model.{refusal, tests, accepted, unless}
-use Rattle.model.specs.Tests.{refusal-next}
+use Rattle.model.specs.Call.{read, count}
+use Rattle.answers.specs.Answers.{Refusal, bad-length, counts}
+use Rattle.model.specs.Model.{tests, accepted}
+use Rattle.answers.specs.Tests.{refusal, unless}
+use Rattle.answers.specs.Laws.{refusal-next}
 use Rattle.agreement.specs.Agree.{Map, Alike, Effect, mapVerdict, mapAnswer, Step}
 use Rattle.view.specs.View.{view, Store}
 use Rattle.view.specs.Viewed.{view-alive, view-snapshots, view-used}

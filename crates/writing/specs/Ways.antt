@@ -14,9 +14,9 @@ use Rattle.basics.specs.CountLaws.{count-most}
 use Rattle.records.specs.Records.{Table, Records, table, taken, used, version}
 use Rattle.records.specs.Reading.{lives}
 use Rattle.records.specs.Sound.{Sound}
-use Rattle.model.specs.Call.{bad-length, bad-row, unknown-tag, places-full}
-use Rattle.model.specs.Model.{Tests, refusal}
-use Rattle.model.specs.Tests.{refusal-here, refusal-next, refusal-none}
+use Rattle.answers.specs.Answers.{bad-length, bad-row, unknown-tag, places-full}
+use Rattle.answers.specs.Tests.{Tests, refusal}
+use Rattle.answers.specs.Laws.{refusal-here, refusal-next, refusal-none}
 use Rattle.nodes.specs.Nodes.{firstChild}
 use Rattle.sharing.specs.Sharing.{freeEntry, sharedAt}
 use Rattle.sharing.specs.Laws.{full-used}

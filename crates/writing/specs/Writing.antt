@@ -11,8 +11,8 @@ use Rattle.records.specs.declared.Tree.{Tree}
 use Rattle.records.specs.Records.{Records, table, Alive, used, version}
 use Rattle.records.specs.Reading.{place, lives}
 use Rattle.records.specs.Sound.{Sound}
-use Rattle.model.specs.Call.{Refusal, bad-length, bad-row, unknown-tag, places-full, unsound, number}
-use Rattle.model.specs.Model.{Tests, refusal}
+use Rattle.answers.specs.Answers.{Refusal, bad-length, bad-row, unknown-tag, places-full, unsound, number}
+use Rattle.answers.specs.Tests.{Tests, refusal}
 use Rattle.soundness.specs.Judged.{Judged, Leaves}
 use Rattle.edits.specs.Edits.{split}
 use Rattle.nodes.specs.Nodes.{emptyNode, firstChild}

@@ -5,7 +5,7 @@ ghost use mathlib.Core.Option.{some};
 ghost use Prim.Native.Nat.{ℕ, _<_};
 ghost use lib.ListN.{length, set};
 ghost use Rattle.records.specs.Records.{recordsOf, nodesUsed, Child};
-ghost use Rattle.model.specs.Model.{refusal};
+ghost use Rattle.answers.specs.Tests.{refusal};
 ghost use Rattle.soundness.specs.Judged.{Leaves};
 ghost use Rattle.edits.specs.Edits.{FreeEntry};
 ghost use Rattle.writing.specs.Writing.{held, partedTree, partedNode, toFree, savingBy, fullTest, writtenAt, Writable, WriteEnds};

@@ -4,6 +4,8 @@ use native.Mathlib.Omega.{arith}
 use mathlib.Core.Path.{sym}
 use borrow.Author.Tests.{le-leb, lt-leb, lt-ltb, le-ltb, eq-eqb, ne-eqb}
 use Rattle.commands.specs.Format.{stepAt}
+use Rattle.commands.specs.Laws.{known-number}
+use Rattle.basics.specs.Decide.{at}
 use Rattle.commands.proofs.next.Statement.{statement}
 use Rattle.commands.proofs.next.Tie as tie
 
@@ -36,7 +38,11 @@ add-t5 c = search needs
 
 returns-4 : tie.Need-returns-4
 unfolding stepAt
-returns-4 c = simp (lt-leb _ _ (c .before .before .before .before .before .if1 .left), sym (c .before .before .before .size-of .ensures), ne-eqb _ _ (c .before .before .if2 .left), le-ltb _ _ (c .before .if3 .left), c .command-of .ensures)
+returns-4 c =
+    let a = c .before .before .before .before .before .before .before .args in
+    let e = c .command-of .ensures in
+    let k = known-number (a .width) (a .stream .now) (a .p) (at (a .stream .now) (a .p)) in
+    simp (lt-leb _ _ (c .before .before .before .before .before .if1 .left), sym (c .before .before .before .size-of .ensures), ne-eqb _ _ (c .before .before .if2 .left), le-ltb _ _ (c .before .if3 .left), e, k)
 
 pub next-spec : {M : Type 1} → statement M
 next-spec =

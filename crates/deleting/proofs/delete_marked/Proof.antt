@@ -5,7 +5,7 @@ use mathlib.Core.Path.{_≡_, refl, sym, _∙_}
 use mathlib.Core.Option.{some}
 use Rattle.deleting.specs.Laws.{origin-refused, tag-refused, accepted, deleted-version, deletable}
 use Rattle.soundness.specs.Judged.{judged-sound, judged-unsound, leaves-refused, leaves-done}
-use Rattle.model.specs.Call.{origin-tag, unknown-tag}
+use Rattle.answers.specs.Answers.{origin-tag, unknown-tag}
 use Rattle.tree.specs.Rules.{found-at, found-missing}
 use Rattle.records.specs.Sound.{Sound}
 use Rattle.records.specs.Records.{recordsOf, version}

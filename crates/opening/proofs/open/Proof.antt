@@ -3,7 +3,7 @@ use borrow.Author.Needs.{needs}
 use native.Mathlib.Nat.{mul-le-mul}
 use native.Mathlib.Omega.{arith}
 use Rattle.opening.specs.Laws.{opening-refused, opening-done, size-refused, places-refused, nodes-refused, rows-refused, accepted}
-use Rattle.model.specs.Call.{bad-size, bad-length}
+use Rattle.answers.specs.Answers.{bad-size, bad-length}
 use Rattle.measures.specs.Measures.{Within}
 use Rattle.basics.specs.Decide.{passed, failed}
 use Rattle.opening.proofs.open.Statement.{statement}

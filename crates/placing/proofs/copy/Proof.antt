@@ -18,25 +18,25 @@ part-requires c κs = search needs
 fill-requires : tie.Need-fill-requires
 fill-requires c κs =
     let i = c .before .before .before .before .pre .0 in
-    room-size 1024 _ (i .narrow) ∙ sym (row-size _ _ _ i _ (c .part .ensures))
+    room-size 1024 _ (i .narrow) ∙ sym (row-size _ _ _ i _ (c .part .ensures .0))
 
 array-share-prefix-old : tie.Need-array-share-prefix-old
 array-share-prefix-old c =
     let f = c .before .before in
     let i = f .before .before .before .before .before .pre .0 in
-    front-long _ _ _ i _ (f .fill .ensures ∙ f .before .part .ensures) _
+    front-long _ _ _ i _ (f .fill .ensures ∙ f .before .part .ensures .0) _
 
 slice-aggregate-put : tie.Need-slice-aggregate-put
 slice-aggregate-put c =
     let f = c .before .before .before in
     let i = f .before .before .before .before .before .pre .0 in
-    sym (front-size _ _ _ i _ (f .fill .ensures ∙ f .before .part .ensures) _)
+    sym (front-size _ _ _ i _ (f .fill .ensures ∙ f .before .part .ensures .0) _)
 
 put-requires : tie.Need-put-requires
 put-requires c κs =
     let f = c .before .before .before in
     let s = f .before .before .before .before .before in
-    (s .pre .1, front-size _ _ _ (s .pre .0) _ (f .fill .ensures ∙ f .before .part .ensures) _)
+    (s .pre .1, front-size _ _ _ (s .pre .0) _ (f .fill .ensures ∙ f .before .part .ensures .0) _)
 
 same-length : tie.Need-same-length
 same-length c = search needs
@@ -46,7 +46,7 @@ returns c =
     let p = c .before .before in
     let f = p .before .before .before .before in
     let i = f .before .before .before .before .before .pre .0 in
-    p .put .ensures ∙ ap (putAt _ _ _) (front-row _ _ _ i _ (f .fill .ensures ∙ f .before .part .ensures) _)
+    p .put .ensures ∙ ap (putAt _ _ _) (front-row _ _ _ i _ (f .fill .ensures ∙ f .before .part .ensures .0) _)
 
 pub copy-spec : {M : Type 1} → statement M
 copy-spec =

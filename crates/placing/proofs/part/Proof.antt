@@ -1,7 +1,7 @@
 -- `placing::part` meets its contract. Assumes nothing.
 use borrow.Author.Needs.{needs}
 use Prim.Native.Nat.{_+_, _-_}
-use mathlib.Core.Path.{_≡_}
+use mathlib.Core.Path.{_≡_, refl}
 use native.Mathlib.Omega.{arith}
 use Rattle.measures.specs.Measures.{bytesAt}
 use Rattle.placing.proofs.part.Statement.{statement}
@@ -28,7 +28,7 @@ returns c =
     let a = c .before .before .before .args in
     let f = c .before .offset in
     let e : (f .result + a .width) - f .result ≡ a .width = omega arith in
-    rw (e, f .ensures)
+    (rw (e, f .ensures), record { memory = refl; offset = omega (arith, f .ensures) })
 
 pub part-spec : {M : Type 1} → statement M
 part-spec =

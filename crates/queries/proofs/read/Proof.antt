@@ -1,6 +1,6 @@
 -- `queries::read` meets its contract: each return cites the law of its test. Assumes nothing.
 use borrow.Author.Needs.{needs}
-use mathlib.Core.Path.{_≡_, refl, sym, _∙_}
+use mathlib.Core.Path.{_≡_, sym, _∙_}
 use mathlib.Core.Option.{some}
 use Prim.Native.Nat.{_<_}
 use native.Mathlib.Nat.{mul-le-mul}
@@ -8,9 +8,8 @@ use native.Mathlib.Omega.{arith}
 use Rattle.basics.specs.Decide.{passed, failed}
 use Rattle.records.specs.Records.{recordsOf, version}
 use Rattle.records.specs.Sound.{Sound}
-use Rattle.soundness.specs.Judged.{judged-sound, judged-unsound}
 use Rattle.tree.specs.Rules.{found-at, found-missing}
-use Rattle.queries.specs.Laws.{read-length, read-row, read-tag, read-done, version-used, looking, read-inside}
+use Rattle.queries.specs.Laws.{read-unsound, read-length, read-row, read-tag, read-done, version-used, looking, read-inside}
 use Rattle.queries.proofs.read.Statement.{statement}
 use Rattle.queries.proofs.read.Tie as tie
 
@@ -38,7 +37,7 @@ nothing-requires : tie.Need-nothing-requires
 nothing-requires c κs = search needs
 
 returns : tie.Need-returns
-returns c = judged-unsound (failed (c .before .before .sound .result) (c .before .before .sound .ensures) (c .before .if1 .taken)) (record { numbered = refl; handed = c .nothing .ensures })
+returns c = read-unsound _ _ _ _ (failed (c .before .before .sound .result) (c .before .before .sound .ensures) (c .before .if1 .taken)) (c .nothing .ensures)
 
 mul-if2 : tie.Need-mul-if2
 mul-if2 c =
@@ -49,7 +48,7 @@ nothing-requires-2 : tie.Need-nothing-requires-2
 nothing-requires-2 c κs = search needs
 
 returns-2 : tie.Need-returns-2
-returns-2 c = judged-sound (judged (c .before .before .before)) (rw (c .nothing2 .ensures) (read-length _ _ _ _ (c .before .if2 .taken)))
+returns-2 c = read-length _ _ _ _ (judged (c .before .before .before)) (c .before .if2 .taken) (c .nothing2 .ensures)
 
 has-row-requires : tie.Need-has-row-requires
 has-row-requires c κs = search needs
@@ -61,7 +60,7 @@ returns-3 : tie.Need-returns-3
 returns-3 c =
     let h = c .before .before in
     let p = h .before in
-    judged-sound (judged (p .before .before)) (rw (c .nothing3 .ensures) (read-row _ _ _ _ (p .if2 .left) (failed (h .has-row .result) (h .has-row .ensures) (c .before .if3 .taken))))
+    read-row _ _ _ _ (judged (p .before .before)) (p .if2 .left) (failed (h .has-row .result) (h .has-row .ensures) (c .before .if3 .taken)) (c .nothing3 .ensures)
 
 version-requires : tie.Need-version-requires
 version-requires c κs = search needs
@@ -82,7 +81,8 @@ returns-4 c =
     let h = v .before .before .before .before .before in
     let p = h .before .before in
     let s = p .before .before .before .before .before .before .before in
-    judged-sound (judged (p .before .before)) (rw (c .nothing4 .ensures) (read-tag _ _ _ _ (p .if2 .left) (passed (h .before .has-row .result) (h .before .has-row .ensures) (h .if3 .left)) (found-missing (version (s .args .t2) (s .args .tag)) (sym (q .enum-told .given .1) ∙ v .version .ensures))))
+    read-tag _ _ _ _ (judged (p .before .before)) (p .if2 .left) (passed (h .before .has-row .result) (h .before .has-row .ensures) (h .if3 .left))
+    (found-missing (version (s .args .t2) (s .args .tag)) (sym (q .enum-told .given .1) ∙ v .version .ensures)) (c .nothing4 .ensures)
 
 lookup-requires : tie.Need-lookup-requires
 lookup-requires c κs =
@@ -100,7 +100,8 @@ returns-5 c =
     let l = c .before in
     let k = l .before .before .before .before .before in
     let p = early k in
-    judged-sound (judged (p .before .before)) (rw (c .part .ensures, l .lookup .ensures) (read-done _ _ _ _ (p .if2 .left) (low k) _ (known k)))
+    let f = rw (l .lookup .ensures) at (c .part .ensures) in
+    read-done _ _ _ _ (judged (p .before .before)) (p .if2 .left) (low k) _ (known k) (f .0) (f .1)
 
 pub read-spec : {M : Type 1} → statement M
 read-spec =

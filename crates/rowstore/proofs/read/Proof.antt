@@ -15,7 +15,7 @@ read-requires : tie.Need-read-requires
 read-requires c κs = search needs
 
 copy-row-requires : tie.Need-copy-row-requires
-copy-row-requires c κs = λ e. read-size (recordsOf _ _ _ _) _ _ _ (c .before .read .ensures) e
+copy-row-requires c κs = λ e. read-size (recordsOf _ _ _ _) _ _ _ (c .before .read .ensures .0) e
 
 same-length : tie.Need-same-length
 same-length c = search needs
@@ -27,7 +27,7 @@ same-length-3 : tie.Need-same-length-3
 same-length-3 c = search needs
 
 returns : tie.Need-returns
-returns c = read-host (c .before .before .before .before .before .before .before .before .before .before .before .before .before .before .before .before .before .before .before .before .before .pre .fits) (c .before .before .before .before .before .before .before .before .before .before .before .before .before .before .before .size .ensures) (c .before .before .before .before .before .before .before .before .before .before .before .before .load .ensures) _ _ _ (c .before .before .before .before .read .ensures) (c .before .before .copy-row .ensures)
+returns c = read-host (c .before .before .before .before .before .before .before .before .before .before .before .before .before .before .before .before .before .before .before .before .before .pre .fits) (c .before .before .before .before .before .before .before .before .before .before .before .before .before .before .before .size .ensures) (c .before .before .before .before .before .before .before .before .before .before .before .before .load .ensures) _ _ _ (c .before .before .before .before .read .ensures .0) (c .before .before .copy-row .ensures)
 
 pub read-spec : {M : Type 1} → statement M
 read-spec =

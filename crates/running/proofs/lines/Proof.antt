@@ -1,65 +1,78 @@
--- `running::lines` meets its contract. Assumes nothing.
-use borrow.Author.Needs.{needs}
+-- `running::lines` meets its contract: what a turn keeps is `Going` of crates/running, Loop.antt. Assumes nothing.
 use mathlib.Core.Path.{_≡_, refl}
-use Prim.Native.Nat.{_-_}
-use native.Mathlib.Omega.{arith}
-use lib.ListN.{length}
-use Rattle.records.specs.Records.{recordsOf}
-use Rattle.running.specs.Loop.{Going, going-start, going-room, going-next, going-end}
+use mathlib.Core.Bool.{Bool, true, false, not}
+use Prim.Native.Nat.{_≤_}
+use lib.Dec.{T}
+use types.Part.{whole, sub}
+use denote.Struct.Laws as laws
+use Rattle.commands.specs.Format.{stepAt}
+use Rattle.running.specs.Turns.{Ready, reached, Turned}
+use Rattle.running.specs.Loop.{Begins, Through, toGo, Going, going-start, going-ready, going-next, going-less, going-end}
+use Rattle.running.proofs.Progress as G
+use Rattle.running.proofs.Progress.Laws as G′
+use Rattle.running.proofs.Turns.{Carried, Facts, look-part, lines-meets}
+use Rattle.commands.proofs.make.Symbol as make
+use Rattle.commands.proofs.make.Met as make-thm
+use Rattle.commands.proofs.moved.Symbol as moved
+use Rattle.commands.proofs.moved.Met as moved-thm
+use Rattle.commands.proofs.command_here.Symbol as here
+use Rattle.commands.proofs.command_here.Met as here-thm
+use Rattle.running.proofs.serve.Symbol as serve
+use Rattle.running.proofs.serve.Met as serve-thm
+use Rattle.running.proofs.lines.Key.{name}
 use Rattle.running.proofs.lines.Statement.{statement}
-use Rattle.running.proofs.lines.Tie as tie
+use Rattle.running.proofs.lines.Code as code
 
-abbrev Inv-loop : tie.InvT-loop
-Inv-loop size node₀ row₀ places₀ stream out₀ tree₀ p₀ end₀ k₀ node row places out tree p end k =
-    (length node ≡ length node₀) × (length row ≡ length row₀) × (length places ≡ length places₀)
-    × Going (recordsOf size tree₀ node₀ row₀) places₀ stream out₀ (recordsOf size tree node row) places out p k end
+-- a `Progress`, whose fifth field is the test
+abbrev run : Carried
+run = record {
+  type = G.the-row;
+  held = G′.mir;
+  low = G′.lowered;
+  spelt = G′.lowers .val-is;
+  typed = λ 𝓤 H A W r u is. laws.lawful G.the-type G′.the-laws 𝓤 H A W .typed r _ is .0;
+  made = λ 𝓤 H A. laws.makes G.the-type G′.the-plain 𝓤 H A;
+  bound = λ r. tt;
+  silent = λ r w. refl;
+  going = λ r. r .going;
+  at = 4;
+  off = 552;
+  spot = refl;
+  reads = λ t n b r e. look-part t n e (sub t 4 refl (whole t));
+}
 
-abbrev μ-loop : tie.MeasureT-loop
-μ-loop size node₀ row₀ places₀ stream out₀ tree₀ p₀ end₀ k₀ node row places out tree p end k = length stream - p
+-- what a test says
+yes : (b : Bool) → T b → b ≡ true
+yes true t = refl
+yes false t = absurd t
 
-loop-holds : tie.Need-loop-holds Inv-loop μ-loop
-loop-holds c = (refl, refl, refl, going-start _ _ _ _)
+no : (b : Bool) → T (not b) → b ≡ false
+no true t = absurd t
+no false t = refl
 
-command-requires : tie.Need-command-requires Inv-loop μ-loop
-command-requires c κs = let g = c .before .before .before .before .before .loop .inv .3 in let (w, n, m) = c .before .before .before .before .before .before .before .before .before .before .before .pre in (c .before .before .before .before .loop-test .taken, w, going-room _ _ _ _ m (c .before .before .before .before .loop-test .taken) g)
-
-add-k : tie.Need-add-k Inv-loop μ-loop
-add-k c = omega (arith, c .before .before .before .before .before .before .before .before .before .before .before .before .before .before .before .loop .inv .3 .line, c .before .before .before .before .before .before .before .before .before .before .before .before .before .before .loop-test .taken, c .before .before .before .before .before .before .before .before .before .before .before .before .before .before .before .before .before .before .before .before .before .pre .1)
-
-loop-less : tie.Need-loop-less Inv-loop μ-loop
-loop-less c = omega (arith, c .before .before .before .before .before .before .before .before .before .before .before .before .before .before .loop-test .taken, c .before .before .before .before .before .before .before .before .before .command .ensures .moves)
-
-loop-again : tie.Need-loop-again Inv-loop μ-loop
-loop-again c = let i = c .before .before .before .before .before .before .before .before .before .before .before .before .before .before .before .loop .inv in (search needs, search needs, search needs, going-next _ _ _ _ refl (c .before .before .before .before .before .before .before .before .before .before .before .before .before .before .loop-test .taken) (c .before .before .before .before .before .before .before .before .before .command .ensures) (i .3))
-
-same-length : tie.Need-same-length Inv-loop μ-loop
-same-length c = c .before .loop .inv .0
-
-same-length-2 : tie.Need-same-length-2 Inv-loop μ-loop
-same-length-2 c = c .before .loop .inv .1
-
-same-length-3 : tie.Need-same-length-3 Inv-loop μ-loop
-same-length-3 c = c .before .loop .inv .2
-
-same-length-4 : tie.Need-same-length-4 Inv-loop μ-loop
-same-length-4 c = c .before .loop .inv .3 .size
-
-returns : tie.Need-returns Inv-loop μ-loop
-returns c = going-end _ _ _ _ (c .loop-test .left) (c .before .loop .inv .3)
+abbrev facts : Facts run
+facts = record {
+  Pre = λ s w r L. Begins w r s (L .out);
+  Post = λ s w r₀ L₀ r L. Through r₀ (L₀ .node) (L₀ .row) (L₀ .places) s (L₀ .out) r (L .node) (L .row) (L .places) (L .out);
+  reqHere = λ w. w ≤ 1024;
+  Here = λ s p w st. st ≡ stepAt w s p;
+  Req = λ r st s p L. Ready r st s p (L .out);
+  Ens = λ r st s p L r′ L′. Turned r (L .node) (L .row) (L .places) s p (L .out) r′ (L′ .node) (L′ .row) (L′ .places) (L′ .out) (st .next);
+  Inv = λ s w r₀ L₀ p r L. Begins w r₀ s (L₀ .out) × Going r₀ (L₀ .node) (L₀ .row) (L₀ .places) s (L₀ .out) r (L .node) (L .row) (L .places) (L .out) (reached s r p);
+  μ = λ s p r L. toGo s r p;
+  start = λ s w r₀ L₀ pre. (pre, going-start r₀ (L₀ .node) (L₀ .row) (L₀ .places) s (L₀ .out) pre);
+  wide = λ s w r₀ L₀ p r L i. i .0 .narrow;
+  asks = λ s w r₀ L₀ p r L st i g h. going-ready r₀ (L₀ .node) (L₀ .row) (L₀ .places) s (L₀ .out) (yes (r .going) g) (i .1) (i .0) h;
+  next = λ s w r₀ L₀ p r L st r′ L′ i g h e z. (
+    (i .0, going-next r₀ (L₀ .node) (L₀ .row) (L₀ .places) s (L₀ .out) (yes (r .going) g) (i .1) e),
+    going-less r₀ (L₀ .node) (L₀ .row) (L₀ .places) s (L₀ .out) (yes (r .going) g) (i .1) e,
+  );
+  over = λ s w r₀ L₀ p r L i o. going-end r₀ (L₀ .node) (L₀ .row) (L₀ .places) s (L₀ .out) p (no (r .going) o) (i .1);
+}
 
 pub lines-spec : {M : Type 1} → statement M
-lines-spec =
-    tie.close
-    (tie.spec
-    Inv-loop
-    μ-loop
-    loop-holds
-    command-requires
-    add-k
-    loop-less
-    loop-again
-    same-length
-    same-length-2
-    same-length-3
-    same-length-4
-    returns)
+unfolding code.routine
+lines-spec 𝓤 H 𝓜 𝓖 𝓡 =
+    lines-meets run facts 𝓤 H 𝓜 𝓖 𝓡 code.env name make.name here.name moved.name serve.name (code.unfolded 𝓤 H 𝓜 𝓡)
+    make.routine code.calls-commands·make (make-thm.met 𝓤 H 𝓜 𝓖 𝓡) here.routine code.calls-commands·command-here (here-thm.met 𝓤 H 𝓜 𝓖 𝓡)
+    moved.routine code.calls-commands·moved (moved-thm.met 𝓤 H 𝓜 𝓖 𝓡) serve.routine code.calls-running·serve (serve-thm.met 𝓤 H 𝓜 𝓖 𝓡)

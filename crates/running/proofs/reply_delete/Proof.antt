@@ -1,7 +1,7 @@
 -- `running::reply_delete` meets its contract. Assumes nothing.
 use borrow.Author.Needs.{needs}
 use Rattle.records.specs.Records.{recordsOf}
-use Rattle.running.specs.Replies.{delete-replied}
+use Rattle.running.specs.Replies.{delete-replied, answered}
 use Rattle.running.proofs.reply_delete.Statement.{statement}
 use Rattle.running.proofs.reply_delete.Tie as tie
 
@@ -14,6 +14,9 @@ wide-requires c κs = search needs
 plain-line-requires : tie.Need-plain-line-requires
 plain-line-requires c κs = search needs
 
+on-requires : tie.Need-on-requires
+on-requires c κs = search needs
+
 same-length : tie.Need-same-length
 same-length c = search needs
 
@@ -24,7 +27,7 @@ same-length-3 : tie.Need-same-length-3
 same-length-3 c = search needs
 
 returns : tie.Need-returns
-returns c = delete-replied (recordsOf _ _ _ _) (c .before .before .before .before .before .wide .ensures) (c .before .before .before .before .before .before .before .before .before .before .delete .ensures) (c .before .before .plain-line .ensures)
+returns c = λ places. answered (c .on .ensures) (delete-replied (recordsOf _ _ _ _) (c .before .before .before .before .before .before .wide .ensures) (c .before .before .before .before .before .before .before .before .before .before .before .delete .ensures) (c .before .before .before .plain-line .ensures) places)
 
 pub reply-delete-spec : {M : Type 1} → statement M
 reply-delete-spec =
@@ -33,6 +36,7 @@ reply-delete-spec =
     delete-requires
     wide-requires
     plain-line-requires
+    on-requires
     same-length
     same-length-2
     same-length-3

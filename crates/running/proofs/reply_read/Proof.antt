@@ -2,7 +2,7 @@
 use borrow.Author.Needs.{needs}
 use native.Mathlib.Omega.{arith}
 use Rattle.records.specs.Records.{recordsOf}
-use Rattle.running.specs.Replies.{read-refused, read-replied, read-most}
+use Rattle.running.specs.Replies.{read-refused, read-replied, read-most, answered}
 use Rattle.running.proofs.reply_read.Statement.{statement}
 use Rattle.running.proofs.reply_read.Tie as tie
 
@@ -15,20 +15,26 @@ wide-requires c κs = search needs
 plain-line-requires : tie.Need-plain-line-requires
 plain-line-requires c κs = search needs
 
+on-requires : tie.Need-on-requires
+on-requires c κs = search needs
+
 same-length : tie.Need-same-length
 same-length c = search needs
 
 returns : tie.Need-returns
-returns c = read-refused (recordsOf _ _ _ _) _ (c .before .before .before .before .before .wide .ensures) (c .before .before .before .before .if1 .taken) (c .before .before .before .before .before .before .read .ensures) (c .before .before .plain-line .ensures)
+returns c = answered (c .on .ensures) (read-refused (recordsOf _ _ _ _) _ (c .before .before .before .before .before .before .wide .ensures) (c .before .before .before .before .before .if1 .taken) (c .before .before .before .before .before .before .before .read .ensures .0) (c .before .before .before .plain-line .ensures))
 
 row-line-requires : tie.Need-row-line-requires
-row-line-requires c κs = omega (arith, read-most (recordsOf _ _ _ _) _ _ _ _ (c .before .before .before .read .ensures), c .before .before .before .before .before .before .before .before .before .pre)
+row-line-requires c κs = omega (arith, read-most (recordsOf _ _ _ _) _ _ _ _ (c .before .before .before .read .ensures .0), c .before .before .before .before .before .before .before .before .before .before .pre .fits)
+
+on-requires-2 : tie.Need-on-requires-2
+on-requires-2 c κs = search needs
 
 same-length-2 : tie.Need-same-length-2
 same-length-2 c = search needs
 
 returns-2 : tie.Need-returns-2
-returns-2 c = read-replied (recordsOf _ _ _ _) _ (c .before .before .before .before .before .wide .ensures) (c .before .before .before .before .if1 .left) (c .before .before .before .before .before .before .read .ensures) (c .before .before .row-line .ensures)
+returns-2 c = answered (c .on2 .ensures) (read-replied (recordsOf _ _ _ _) _ (c .before .before .before .before .before .before .wide .ensures) (c .before .before .before .before .before .if1 .left) (c .before .before .before .before .before .before .before .read .ensures .0) (c .before .before .before .row-line .ensures))
 
 pub reply-read-spec : {M : Type 1} → statement M
 reply-read-spec =
@@ -37,8 +43,10 @@ reply-read-spec =
     read-requires
     wide-requires
     plain-line-requires
+    on-requires
     same-length
     returns
     row-line-requires
+    on-requires-2
     same-length-2
     returns-2)

@@ -1,7 +1,7 @@
 -- `running::reply_write` meets its contract. Assumes nothing.
 use borrow.Author.Needs.{needs}
 use Rattle.records.specs.Records.{recordsOf}
-use Rattle.running.specs.Replies.{write-replied}
+use Rattle.running.specs.Replies.{write-replied, answered}
 use Rattle.running.proofs.reply_write.Statement.{statement}
 use Rattle.running.proofs.reply_write.Tie as tie
 
@@ -13,6 +13,9 @@ wide-requires c κs = search needs
 
 plain-line-requires : tie.Need-plain-line-requires
 plain-line-requires c κs = search needs
+
+on-requires : tie.Need-on-requires
+on-requires c κs = search needs
 
 same-length : tie.Need-same-length
 same-length c = search needs
@@ -27,7 +30,7 @@ same-length-4 : tie.Need-same-length-4
 same-length-4 c = search needs
 
 returns : tie.Need-returns
-returns c = write-replied (recordsOf _ _ _ _) _ (c .before .before .before .before .before .wide .ensures) (c .before .before .before .before .before .before .before .before .before .before .before .before .write .ensures) (c .before .before .plain-line .ensures)
+returns c = answered (c .on .ensures) (write-replied (recordsOf _ _ _ _) _ (c .before .before .before .before .before .before .wide .ensures) (c .before .before .before .before .before .before .before .before .before .before .before .before .before .write .ensures) (c .before .before .before .plain-line .ensures))
 
 pub reply-write-spec : {M : Type 1} → statement M
 reply-write-spec =
@@ -36,6 +39,7 @@ reply-write-spec =
     write-requires
     wide-requires
     plain-line-requires
+    on-requires
     same-length
     same-length-2
     same-length-3

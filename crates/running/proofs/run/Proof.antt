@@ -1,4 +1,4 @@
--- `running::run` meets its contract. Assumes nothing.
+-- `running::run` meets its contract: each return cites the law of its test. Assumes nothing.
 use borrow.Author.Needs.{needs}
 use mathlib.Core.Path.{refl, sym}
 use native.Mathlib.Nat.{mul-le-mul}
@@ -72,7 +72,7 @@ returns-4 : tie.Need-returns-4
 returns-4 c = run-room (recordsOf _ _ _ _) _ _ _ (c .refused4 .ensures) (judged (c .before .before .before .before .before .before)) (c .before .before .before .before .if2 .left) (c .before .before .before .if3 .left) (rw (sym (c .before .before .room .ensures)) (c .before .if4 .taken))
 
 lines-requires : tie.Need-lines-requires
-lines-requires c κs = (judged (c .before .before .before .before .before .before .before .before .before) .measured .within .width .1, c .before .before .before .before .before .before .if3 .left, rw (sym (c .before .before .before .before .before .room .ensures)) (c .before .before .before .before .if4 .left))
+lines-requires c κs = record { sized = refl; narrow = judged (c .before .before .before .before .before .before .before .before .before) .measured .within .width .1; start = (refl, refl, refl); few = c .before .before .before .before .before .before .if3 .left; room = rw (sym (c .before .before .before .before .before .room .ensures)) (c .before .before .before .before .if4 .left) }
 
 same-length-9 : tie.Need-same-length-9
 same-length-9 c = search needs
@@ -87,7 +87,7 @@ same-length-12 : tie.Need-same-length-12
 same-length-12 c = search needs
 
 returns-5 : tie.Need-returns-5
-returns-5 c = run-done (recordsOf _ _ _ _) _ _ _ (judged (c .before .before .before .before .before .before .before .before .before .before .before .before .before .before .before .before .before .before .before)) (c .before .before .before .before .before .before .before .before .before .before .before .before .before .before .before .before .before .if2 .left) (c .before .before .before .before .before .before .before .before .before .before .before .before .before .before .before .before .if3 .left) (rw (sym (c .before .before .before .before .before .before .before .before .before .before .before .before .before .before .before .room .ensures)) (c .before .before .before .before .before .before .before .before .before .before .before .before .before .before .if4 .left)) (c .before .before .before .before .before .before .before .before .before .lines .ensures)
+returns-5 c = run-done (judged (c .before .before .before .before .before .before .before .before .before .before .before .before .before .before .before .before .before .before .before)) (c .before .before .before .before .before .before .before .before .before .before .before .before .before .before .before .before .before .if2 .left) (c .before .before .before .before .before .before .before .before .before .before .before .before .before .before .before .before .if3 .left) (rw (sym (c .before .before .before .before .before .before .before .before .before .before .before .before .before .before .before .room .ensures)) (c .before .before .before .before .before .before .before .before .before .before .before .before .before .before .if4 .left)) (c .before .before .before .before .before .before .before .before .before .lines .ensures)
 
 pub run-spec : {M : Type 1} → statement M
 run-spec =

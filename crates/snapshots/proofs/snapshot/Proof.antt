@@ -7,7 +7,7 @@ use Rattle.snapshots.specs.Laws.{zero-refused, source-refused, alive-ref
 use Rattle.soundness.specs.Judged.{judged-sound, judged-unsound, leaves-refused, leaves-done}
 use Rattle.tree.specs.Nodes.{version-alive}
 use Rattle.tree.specs.Rules.{found-at, found-missing}
-use Rattle.model.specs.Call.{zero-tag, unknown-tag, tag-alive, snapshots-full}
+use Rattle.answers.specs.Answers.{zero-tag, unknown-tag, tag-alive, snapshots-full}
 use Rattle.records.specs.Sound.{Sound}
 use Rattle.records.specs.Records.{recordsOf, version}
 use Rattle.basics.specs.Decide.{passed, failed}

@@ -9,7 +9,7 @@ use Rattle.writing.specs.Writing.{inPlace}
 use Rattle.sharing.specs.Laws.{free-some, shared-decides}
 use Rattle.sharing.specs.Sharing.{freeEntry, sharedAt}
 use Rattle.soundness.specs.Judged.{leaves-refused, leaves-done}
-use Rattle.model.specs.Call.{places-full}
+use Rattle.answers.specs.Answers.{places-full}
 use Rattle.tree.specs.Rules.{found-at, found-missing}
 use Rattle.records.specs.Records.{recordsOf, table}
 use Rattle.basics.specs.Decide.{passed, failed, decides-true, decides-false}

@@ -7,7 +7,7 @@ use native.Mathlib.Omega.{arith}
 use Rattle.writing.specs.Ways.{places-refused, width-refused, row-refused, tag-refused, tag-passed, written-version}
 use Rattle.writing.specs.Writing.{Writable}
 use Rattle.soundness.specs.Judged.{judged-sound, judged-unsound, leaves-refused, leaves-same}
-use Rattle.model.specs.Call.{bad-length, bad-row, unknown-tag}
+use Rattle.answers.specs.Answers.{bad-length, bad-row, unknown-tag}
 use Rattle.tree.specs.Nodes.{version-alive}
 use Rattle.tree.specs.Rules.{found-at, found-missing}
 use Rattle.records.specs.Sound.{Sound}

@@ -1,8 +1,8 @@
--- Laws of tests in a row: one that holds refuses, one that does not is passed over. Assumes nothing.
+-- Laws of tests in a row: one that holds refuses, one that does not is passed over; and no refusal has the number 0. Assumes nothing.
 use mathlib.Core.Path.{_≡_, refl}
 use mathlib.Core.Bool.{Bool, true, false, _&&_}
 use mathlib.Core.List.{[], _∷_}
-use mathlib.Core.Option.{none, some}
+use mathlib.Core.Option.{Option, none, some}
 use Prim.Native.Nat.{ℕ, _≤_}
 use native.Mathlib.Omega.{arith}
 use lib.Dec.{leb}
@@ -10,8 +10,8 @@ use borrow.Author.Tests.{leb-true, le-leb}
 use Rattle.basics.specs.Decide.{and-yes, both}
 use Rattle.measures.specs.declared.Size.{Size}
 use Rattle.measures.specs.Measures.{Within}
-use Rattle.model.specs.Call.{Refusal}
-use Rattle.model.specs.Model.{Tests, refusal, inMeasure}
+use Rattle.answers.specs.Answers.{Refusal, bad-size, bad-length, bad-row, zero-tag, origin-tag, unknown-command, cut-command, long-stream, unsound, unknown-tag, tag-alive, snapshots-full, places-full, number}
+use Rattle.answers.specs.Tests.{Tests, refusal, unless, verdictNumber, inMeasure}
 
 pub refusal-here : {b : Bool} (r : Refusal) (ts : Tests) → b ≡ true → refusal ((b, r) ∷ ts) ≡ some r
 unfolding refusal
@@ -30,6 +30,32 @@ refusal-passed false r ts e = (refl, e)
 pub refusal-none : refusal [] ≡ none
 unfolding refusal
 refusal-none = refl
+
+-- what is made of a choice is chosen
+pub unless-made : {A B : Type 0} (f : A → B) (v : Option Refusal) (old new : A) → f (unless v (λ x. old) new) ≡ unless v (λ x. f old) (f new)
+unless-made f none old new = refl
+unless-made f (some r) old new = refl
+
+-- no refusal has the number 0
+pub number-some : (r : Refusal) → number r ≡ 0 → ⊥
+number-some bad-size e = omega (arith, e)
+number-some bad-length e = omega (arith, e)
+number-some bad-row e = omega (arith, e)
+number-some zero-tag e = omega (arith, e)
+number-some origin-tag e = omega (arith, e)
+number-some unknown-command e = omega (arith, e)
+number-some cut-command e = omega (arith, e)
+number-some long-stream e = omega (arith, e)
+number-some unsound e = omega (arith, e)
+number-some unknown-tag e = omega (arith, e)
+number-some tag-alive e = omega (arith, e)
+number-some snapshots-full e = omega (arith, e)
+number-some places-full e = omega (arith, e)
+
+-- a verdict with the number 0 accepts
+pub verdict-none : (v : Option Refusal) → verdictNumber v ≡ 0 → v ≡ none
+verdict-none none e = refl
+verdict-none (some r) e = absurd (number-some r e)
 
 -- the test of the measures answers whether they are within their limits
 pair-yes : (a b c d : ℕ) → (a ≤ b) × (c ≤ d) → (leb a b && leb c d) ≡ true

@@ -1,0 +1,35 @@
+-- What a list of calls leaves is what `leftBy` says of it, to the last byte. Assumes nothing.
+use mathlib.Core.Path.{_≡_, refl, _∙_}
+use mathlib.Core.List.{List}
+use Prim.Native.Nat.{ℕ}
+use Rattle.records.specs.declared.Tree.{Tree}
+use Rattle.records.specs.Records.{Records}
+use Rattle.records.specs.Sound.{Sound}
+use Rattle.answers.specs.Laws.{unless-made}
+use Rattle.model.specs.Call.{Call}
+use Rattle.model.specs.Model.{Model}
+use Rattle.edits.specs.Edits.{withTree}
+use Rattle.snapshots.specs.Taking.{snapshotVerdict, snapshotTree}
+use Rattle.writing.specs.Writing.{held, writeVerdict, written}
+use Rattle.deleting.specs.Deleting.{Left, left, deleteVerdict, deleted}
+use Rattle.steps.specs.Calls.{Runs}
+use Rattle.theorem.specs.Trace.{State, state, stateHeld, stateLeft, Handed, Call-ends, snapshot-ends, read-ends, write-ends, delete-ends, count-ends, Trace, over, then, leaves, leftBy}
+use Rattle.theorem.specs.Theorem.{one-call}
+
+-- one call on sound records
+pub call-leaves : {z : Records} {places : List ℕ} {c : Call} {h : Handed} {s′ : State} → Sound z → Call-ends z places c h s′ → s′ ≡ leaves (state z places) c
+unfolding leaves
+call-leaves {z} {places} k (snapshot-ends {source = source} {new = new} e) =
+    rw (e .sound k .left) (unless-made (λ (t : Tree). state (withTree z t) places) (snapshotVerdict z source new) (z .tree) (snapshotTree (z .tree) source new))
+call-leaves k (read-ends e) = refl
+call-leaves {z} {places} k (write-ends {tag = tag} {r = r} {bs = bs} e) =
+    rw (e .sound k .left) (unless-made (stateHeld (z .size)) (writeVerdict z places tag r bs) (held (z .tree) (z .node) (z .row) places) (written z places tag r bs))
+call-leaves {z} {places} k (delete-ends {tag = tag} e) =
+    rw (e .sound k .left) (unless-made (λ (l : Left). stateLeft (z .size) l places) (deleteVerdict z tag) (left (z .tree) (z .node) (z .row)) (deleted z tag))
+call-leaves k (count-ends e) = refl
+
+-- any list of calls on a store that runs
+pub list-leaves : {s s′ : State} {m : Model} {cs : List Call} {hs : List Handed} → Runs (s .records) (s .places) m → Trace s cs hs s′ → s′ ≡ leftBy s cs
+unfolding leftBy
+list-leaves run over = refl
+list-leaves run (then {cs = cs} k rest) = list-leaves (one-call run k .2) rest ∙ rw (call-leaves (run .store .sound) k)

@@ -1,0 +1,139 @@
+-- What follows of every store, after any list of calls on it: what Consequences says of the model, in the store's own terms. Assumes nothing.
+use mathlib.Core.Path.{_≡_, sym, _∙_, ap}
+use mathlib.Core.Logic.{_≢_, _↔_}
+use mathlib.Core.Bool.{true, false}
+use mathlib.Core.List.{List, [], _∷_, map}
+use Prim.Native.Nat.{ℕ, _≤_, _<_}
+use lib.ListN.{length}
+use Rattle.measures.specs.declared.Size.{Size}
+use Rattle.records.specs.Records.{Records, table, snapshots, used}
+use Rattle.records.specs.Reading.{lives, tagPlace}
+use Rattle.answers.specs.Answers.{numberOf}
+use Rattle.model.specs.Call.{Call, snapshot, write, delete}
+use Rattle.model.specs.Model.{Model, alive, snapshotsAlive, shared, answer, after, answers, final}
+use Rattle.agreement.specs.Counting.{shared-yes, shared-some}
+use Rattle.edits.specs.Edits.{Whole}
+use Rattle.queries.specs.Queries.{rowOfTag}
+use Rattle.view.specs.View.{view, Store, started}
+use Rattle.view.specs.Viewed.{view-snapshots}
+use Rattle.theorem.specs.Trace.{State, Handed, Call-ends, Trace, over, then, handedOf, Equals}
+use Rattle.theorem.specs.Theorem.{theorem-sound}
+use Rattle.theorem.specs.Consequences as model
+use Rattle.theorem.specs.Consequences.{AllSpare}
+
+-- another living version reads the row from the same place
+abbrev pub Shares : Records → ℕ → ℕ → Type 0
+Shares z tag r = (u : ℕ) × (lives z u ≡ true) × (u ≢ tag) × (tagPlace z u r ≡ tagPlace z tag r)
+
+-- all P places are in use
+abbrev pub Full : Records → Type 0
+Full z = z .size .places ≤ used (table z)
+
+-- 20 is not among the numbers
+abbrev pub NoneUnsound : List Handed → Type 0
+NoneUnsound [] = Unit {0}
+NoneUnsound (h ∷ hs) = (h .number ≢ 20) × NoneUnsound hs
+
+none-unsound : (z : Size) (m : Model) (cs : List Call) → NoneUnsound (map handedOf (answers z m cs))
+unfolding answers
+none-unsound z m [] = tt
+none-unsound z m (c ∷ cs) = (model.never-unsound z m c, none-unsound z (after z m c) cs)
+
+-- a store and the model that starts with it
+module _ (s : State) (st : Store (s .records) (s .places)) (w : Whole (s .records .tree)) where
+  abbrev its : Model
+  its = started (s .records) (s .places)
+
+  equals : Equals (s .records .size) s its
+  unfolding final
+  equals = theorem-sound (s .records) (s .places) st w over .1
+
+  shares-iff : (tag r : ℕ) → lives (s .records) tag ≡ true → r < s .records .size .rows → Shares (s .records) tag r ↔ (shared (its .snapshots) (its .mark) tag r ≡ true)
+  shares-iff tag r a l =
+      let e = equals in
+      let b = sym (e .living tag) ∙ a in (
+        λ x. let c = sym (e .living (x .0)) ∙ x .1 in shared-yes (its .snapshots) (its .mark) tag r (x .0) c (x .2) (e .sharing (x .0) tag r c b l .0 (x .3)),
+        λ h. let (u, c, d, f) = shared-some (its .snapshots) (its .mark) tag r h in (u, e .living u ∙ c, d, e .sharing u tag r c b l .1 f),
+      )
+
+  alive-snapshots : snapshotsAlive (its .snapshots) ≡ snapshots (s .records .tree)
+  unfolding started view
+  alive-snapshots = view-snapshots (s .records) (st .sound) (s .places)
+
+  -- one call: its number is the model's
+  numbered : {c : Call} {h : Handed} {s′ : State} → Call-ends (s .records) (s .places) c h s′ → h .number ≡ numberOf (answer (s .records .size) its c)
+  unfolding answers
+  numbered {c} {h} k =
+      let e = theorem-sound (s .records) (s .places) st w (then k over) .0 in
+      let f : h ≡ handedOf (answer (s .records .size) its c) = cc in
+      ap (λ (x : Handed). x .number) f
+
+-- Any list of calls on a store
+
+module _ {s s′ : State} {cs : List Call} {hs : List Handed} (st : Store (s .records) (s .places)) (w : Whole (s .records .tree)) (t : Trace s cs hs s′) where
+  ends : Equals (s .records .size) s′ (final (s .records .size) (its s st w) cs)
+  ends = theorem-sound (s .records) (s .places) st w t .1
+
+  -- it leaves a store again, of the same size
+  pub stays-store : Store (s′ .records) (s′ .places)
+  stays-store = ends .store
+
+  pub stays-whole : Whole (s′ .records .tree)
+  stays-whole = ends .whole
+
+  pub stays-sized : s′ .records .size ≡ s .records .size
+  stays-sized = ends .sized
+
+  pub never-unsound : NoneUnsound hs
+  never-unsound = rw (theorem-sound (s .records) (s .places) st w t .0) (none-unsound (s .records .size) (its s st w) cs)
+
+  -- calls that neither write a version, delete it nor take its tag leave it alive, and leave its rows
+  pub lives-on : (u : ℕ) → AllSpare u cs → lives (s′ .records) u ≡ lives (s .records) u
+  lives-on u h = ends .living u ∙ model.lives-on (s .records .size) u cs (its s st w) h ∙ sym (equals s st w .living u)
+
+  pub reads-as-left : (u r : ℕ) → AllSpare u cs → lives (s .records) u ≡ true → r < s .records .size .rows → rowOfTag (s′ .records) (s′ .places) u r ≡ rowOfTag (s .records) (s .places) u r
+  reads-as-left u r h a l =
+      let b = sym (equals s st w .living u) ∙ a in
+      ends .rows u r (model.lives-on (s .records .size) u cs (its s st w) h ∙ b) l
+      ∙ model.reads-as-left (s .records .size) u cs (its s st w) h r
+      ∙ sym (equals s st w .rows u r b l)
+
+  -- After it, one more call
+  module _ {h : Handed} {s″ : State} where
+    -- a write that passes its earlier tests gets 24 exactly if its row is shared and every place is in use, and is else accepted
+    module _ {tag r : ℕ} {bs : List ℕ} (k : Call-ends (s′ .records) (s′ .places) (write tag r bs) h s″)
+        (long : length bs ≡ s′ .records .size .width) (low : r < s′ .records .size .rows) (a : lives (s′ .records) tag ≡ true) where
+      its-alive : alive (its s′ stays-store stays-whole .snapshots) tag ≡ true
+      its-alive = sym (equals s′ stays-store stays-whole .living tag) ∙ a
+
+      pub write-full : (h .number ≡ 24) ↔ (Shares (s′ .records) tag r × Full (s′ .records))
+      write-full =
+          let m = its s′ stays-store stays-whole in
+          let f = model.write-full (s′ .records .size) m tag r bs long low its-alive in
+          let x = shares-iff s′ stays-store stays-whole tag r a low in
+          let u = equals s′ stays-store stays-whole .inUse in
+          rw (numbered s′ stays-store stays-whole k) (
+            λ e. (x .1 (f .0 e .0), rw u (f .0 e .1)),
+            λ y. f .1 (x .0 (y .0), rw u at (y .1)),
+          )
+
+      pub write-accepted : (Shares (s′ .records) tag r × Full (s′ .records) → ⊥) → h .number ≡ 0
+      write-accepted n =
+          let m = its s′ stays-store stays-whole in
+          let x = shares-iff s′ stays-store stays-whole tag r a low in
+          let u = equals s′ stays-store stays-whole .inUse in
+          numbered s′ stays-store stays-whole k ∙ model.write-accepted (s′ .records .size) m tag r bs long low its-alive (λ y. n (x .1 (y .0), rw u (y .1)))
+
+    -- a snapshot is accepted exactly if its tag is neither 0 nor alive, its source lives and fewer than 64 are alive
+    pub snapshot-accepted : {source new : ℕ} → Call-ends (s′ .records) (s′ .places) (snapshot source new) h s″
+        → (h .number ≡ 0) ↔ ((new ≢ 0) × (lives (s′ .records) source ≡ true) × (lives (s′ .records) new ≡ false) × (snapshots (s′ .records .tree) < 64))
+    snapshot-accepted {source} {new} k =
+        let e = equals s′ stays-store stays-whole in
+        rw (numbered s′ stays-store stays-whole k, e .living source, e .living new, sym (alive-snapshots s′ stays-store stays-whole))
+        (model.snapshot-accepted (s′ .records .size) (its s′ stays-store stays-whole) source new)
+
+-- a delete leaves every other version alive, and leaves its rows
+pub delete-others : {s s′ : State} {tag : ℕ} {h : Handed} → Store (s .records) (s .places) → Whole (s .records .tree) → Call-ends (s .records) (s .places) (delete tag) h s′
+    → (u r : ℕ) → tag ≢ u → lives (s .records) u ≡ true → r < s .records .size .rows
+    → (lives (s′ .records) u ≡ true) × (rowOfTag (s′ .records) (s′ .places) u r ≡ rowOfTag (s .records) (s .places) u r)
+delete-others st w k u r d a l = (lives-on st w (then k over) u (d, tt) ∙ a, reads-as-left st w (then k over) u r (d, tt) a l)
