@@ -234,7 +234,7 @@ fn printed_example<S: Store>() {
     trial.tally.require(&title, &[0, 21]);
 }
 
-/// Histories in which a step of the 2009 paper, taken as printed, loses a row or keeps a dead one.
+/// Histories in which a step of the 2009 paper, taken as printed (SPEC 11.3), loses a row or keeps a dead one.
 fn steps_that_go_wrong<S: Store>() {
     let cases: [fn() -> Tally; 6] = [
         ghost_row_without_readers::<S>,

@@ -1,4 +1,4 @@
--- What a call answers, and the number of each refusal (document 01, "Refusals"). Definitions only. Assumes nothing.
+-- What a call answers, and the number of each refusal (SPEC 7.2). Definitions only. Assumes nothing.
 use mathlib.Core.List.{List, []}
 use Prim.Native.Nat.{ℕ}
 

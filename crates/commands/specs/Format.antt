@@ -1,4 +1,4 @@
--- The commands of a stream (document 01, "Commands and the program"): what stands at a position. Definitions only. Assumes nothing.
+-- The commands of a stream (SPEC 9.1): what stands at a position. Definitions only. Assumes nothing.
 use mathlib.Core.Bool.{cond}
 use mathlib.Core.List.{List, [], _∷_}
 use mathlib.Core.Option.{Option, none, some}

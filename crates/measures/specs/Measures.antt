@@ -1,4 +1,4 @@
--- A store's measures: L rows of B bytes in P places (document 01, "The store and its measures"). Assumes nothing.
+-- A store's measures: L rows of B bytes in P places (SPEC 2). Assumes nothing.
 use Prim.Native.Nat.{ℕ, _*_, _≤_}
 use mathlib.Core.List.{List}
 use lib.ListN.{take, drop}

@@ -1,4 +1,4 @@
--- The calls on an open store (document 01, "The store and its measures"). Assumes nothing.
+-- The calls on an open store (SPEC 7). Assumes nothing.
 use mathlib.Core.List.{List}
 use Prim.Native.Nat.{ℕ}
 

@@ -1,4 +1,4 @@
--- The reference model, document 01's shelf: a full copy of every living version, with a mark for each of its rows.
+-- The reference model, document 01's shelf (SPEC 6): a full copy of every living version, with a mark for each of its rows.
 -- It computes, and it knows nothing of trees, tables or places. Assumes nothing.
 use mathlib.Core.Bool.{Bool, false, not, _&&_, _||_, cond}
 use mathlib.Core.List.{List, [], _∷_}
@@ -62,7 +62,7 @@ shared tags mark t r = any (λ u. not (eqb u t) && eqb (mark (u, r)) (mark (t, r
 unfoldable pub placesUsed : ℕ → List ℕ → (Cell → ℕ) → ℕ
 placesUsed n tags mark = different mark (cells n (living tags))
 
--- The tests of each call, in document 01's order
+-- The tests of each call, in the order of SPEC 7.1
 
 module _ (z : Size) (tags : List ℕ) (mark : Cell → ℕ) where
   unfoldable pub tests : Call → Tests

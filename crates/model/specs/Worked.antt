@@ -1,4 +1,4 @@
--- The reference model's answers on document 01's worked stream, and on a stream with every refusal, by evaluation. Assumes nothing.
+-- The reference model's answers on the worked stream of SPEC 9.4, and on a stream with every refusal, by evaluation. Assumes nothing.
 use mathlib.Core.Path.{_≡_, refl}
 use mathlib.Core.List.{List, [], _∷_, map}
 use mathlib.Core.Option.{none, some}
@@ -20,7 +20,7 @@ eight b = replicate 8 b
 stream : List Call
 stream = snapshot 0 7 ∷ write 0 2 (eight 0xa1) ∷ read 7 2 ∷ read 0 2 ∷ count ∷ delete 7 ∷ count ∷ read 7 0 ∷ []
 
--- lines 1 to 8 of document 01's output
+-- the eight lines of SPEC 9.4
 worked : answers small (opened small) stream
     ≡ done ∷ done ∷ row (eight 0) ∷ row (eight 0xa1) ∷ counts 5 1 ∷ done ∷ counts 4 0 ∷ refused unknown-tag ∷ []
 unfolding stream eight any different alive snapshotsAlive shared placesUsed refusal tests accepted adopt put without effect opened verdict answer after answers

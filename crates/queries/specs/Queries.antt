@@ -26,7 +26,7 @@ pub record Gives (a : Answer) (number inUse alive : ℕ) : Type 0 where
 abbrev pub countAnswer : Records → Answer
 countAnswer z = counts (used (table z)) (snapshots (z .tree))
 
--- Reading: the tests of document 01 after 20, and the bytes
+-- Reading: the tests of SPEC 7.1 after 20, and the bytes
 
 unfoldable pub readTests : Records → ℕ → ℕ → ℕ → Tests
 readTests z bytes tag r =

@@ -1,4 +1,4 @@
--- The records of a store (document 01, "The records"). Definitions only. Assumes nothing.
+-- The records of a store (SPEC 4). Definitions only. Assumes nothing.
 --
 --   tree (state, tag, parent of 128 nodes)         table (a node and a row for each snapshot place)
 --
@@ -29,7 +29,7 @@ use Rattle.basics.specs.Count.{count, first}
 use Rattle.measures.specs.declared.Size.{Size}
 use Rattle.records.specs.declared.Tree.{Tree}
 
--- The exceptions. Entry i stands for place rows + i: it has a node, 0 if the place is free, and a row.
+-- The exceptions, as document 01 calls them (SPEC 4). Entry i stands for place rows + i: it has a node, 0 if the place is free, and a row.
 pub record Table : Type 0 where
   pub rows : ℕ
   pub node : List ℕ

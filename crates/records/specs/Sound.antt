@@ -1,4 +1,4 @@
--- Sound records: document 01's seven rules, in its order, each with a name, and nothing else. Definitions only. Assumes nothing.
+-- Sound records: the seven rules of SPEC 4.1 to 4.7, in their order, each with a name, and nothing else. Definitions only. Assumes nothing.
 use mathlib.Core.Path.{_≡_}
 use mathlib.Core.Logic.{_≢_}
 use Prim.Native.Nat.{ℕ, _+_, _-_, _≤_, _<_}

@@ -1,4 +1,4 @@
--- What a snapshot answers and leaves: document 01's tests after 20, and the new tree. Definitions only. Assumes nothing.
+-- What a snapshot answers and leaves: the tests of SPEC 7.1 after 20, and the new tree. Definitions only. Assumes nothing.
 use mathlib.Core.Path.{_≡_}
 use mathlib.Core.Bool.{not, cond}
 use mathlib.Core.List.{[], _∷_}

@@ -1,4 +1,4 @@
-// The table's rules, document 01's sixth and seventh, in one pass each, with a mark for each node and row that an entry names.
+// The table's rules, SPEC 4.6 and 4.7, in one pass each, with a mark for each node and row that an entry names.
 ghost use mathlib.Core.Path.{_≡_};
 ghost use Prim.Native.Nat.{_+_, _<_};
 ghost use lib.ListN.{length};

@@ -1,4 +1,4 @@
--- The lines of an output, as bytes (document 01, "Commands and the program"). Definitions only. Assumes nothing.
+-- The lines of an output, as bytes (SPEC 9.2). Definitions only. Assumes nothing.
 use mathlib.Core.Bool.{cond}
 use mathlib.Core.List.{List, [], _∷_, _++_}
 use Prim.Native.Nat.{ℕ, _+_, _/_, _%_}

@@ -1,4 +1,4 @@
-// The tree's own rules, document 01's second to fifth, and the living version of a tag.
+// The tree's own rules, SPEC 4.2 to 4.5, and the living version of a tag.
 ghost use mathlib.Core.Path.{_≡_};
 ghost use Prim.Native.Nat.{_<_};
 ghost use Rattle.basics.specs.Decide.{Decides};

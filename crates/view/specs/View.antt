@@ -1,5 +1,5 @@
 -- A store as a place map: the tags that live, the place from which each reads a row, the bytes of each place; and the reference model
--- that starts from such a store (document 01: sound records from elsewhere). Definitions only. Assumes nothing.
+-- that starts from such a store (document 01's sound records from elsewhere, SPEC 6.6). Definitions only. Assumes nothing.
 use mathlib.Core.Path.{_≡_}
 use mathlib.Core.Bool.{cond}
 use mathlib.Core.List.{List, [], _∷_}
