@@ -9,11 +9,13 @@
  * its records and its places; the library allocates nothing, has no global
  * state and keeps no pointer once a call has returned. Stores are independent,
  * and calls on different stores may run at the same time. Calls on one store
- * may overlap in time only if all of them are reads and counts. A call needs
- * less than 64 KiB of stack, whatever the size of the store.
+ * may overlap in time only if all of them are reads and counts, each into
+ * memory of its own. A call needs less than 64 KiB of stack, whatever the size
+ * of the store.
  *
  * Pointers. No pointer may be NULL, even with length 0. The buffers of one call
- * must not overlap. A buffer needs no alignment.
+ * must not overlap. Buffers of bytes need no alignment; the two numbers of
+ * rowstore_count are aligned as C asks of a size_t.
  *
  * Answers. Each call returns ROWSTORE_OK or the number of the first test that
  * refused it, in the order given with the call. A refusal changes no byte of

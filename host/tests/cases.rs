@@ -2,9 +2,11 @@
 
 mod common;
 
+use common::calls::{Call, Outcome};
 use common::tally::Tally;
 use common::trial::{Care, Measures, Trial};
 use rowstore_host::copies::Copies;
+use rowstore_host::dice::Dice;
 use rowstore_host::judge::place_of;
 use rowstore_host::store::Store;
 
@@ -20,6 +22,7 @@ for_each_store!(
     listed_cases,
     printed_example,
     steps_that_go_wrong,
+    any_address,
 );
 
 /// Opens on marked bytes of the given lengths; a refusal must leave all of them.
@@ -331,4 +334,139 @@ fn row_read_through_a_ghost_alone<S: Store>() -> Tally {
     accepted(&[trial.delete(4)]);
     assert_eq!(trial.copies.count(), (6, 2));
     trial.tally
+}
+
+/// What stands around lent bytes.
+const AROUND: u8 = 0x99;
+
+/// Bytes that start at an address with the given remainder by 8.
+struct Lent {
+    remainder: usize,
+    buffer: Vec<u8>,
+    from: usize,
+    to: usize,
+}
+
+impl Lent {
+    fn at(remainder: usize, len: usize) -> Lent {
+        let buffer = vec![AROUND; len + 24];
+        let from = 8 + (remainder + 8 - buffer.as_ptr() as usize % 8) % 8;
+        let to = from + len;
+        assert_eq!(buffer[from..to].as_ptr() as usize % 8, remainder);
+        Lent {
+            remainder,
+            buffer,
+            from,
+            to,
+        }
+    }
+
+    fn bytes(&mut self) -> &mut [u8] {
+        &mut self.buffer[self.from..self.to]
+    }
+
+    fn kept_around(&self) -> bool {
+        let around = [&self.buffer[..self.from], &self.buffer[self.to..]];
+        around.iter().all(|part| part.iter().all(|&b| b == AROUND))
+    }
+}
+
+/// Records, places and a row at every remainder by 8, at the usual measures and at odd ones.
+fn any_address<S: Store>() {
+    let odd = Measures {
+        rows: 33,
+        width: 37,
+        places: 101,
+    };
+    let mut calls = 0;
+    for measures in [USUAL, odd] {
+        for records_at in 0..8 {
+            for places_at in 0..8 {
+                let buffers = [
+                    Lent::at(records_at, measures.records_len()),
+                    Lent::at(places_at, measures.places_len()),
+                    Lent::at((records_at + places_at) % 8, measures.width),
+                ];
+                calls += history_at::<S>(measures, buffers);
+            }
+        }
+    }
+    println!("any address, {}: {calls} calls compared", S::NAME);
+}
+
+/// A history in which every call is made, and after each the count and every row is compared.
+fn history_at<S: Store>(measures: Measures, mut buffers: [Lent; 3]) -> usize {
+    let [records, places, _] = &mut buffers;
+    let Measures { rows, width, .. } = measures;
+    let (records_len, places_len) = (measures.records_len(), measures.places_len());
+    let opened = S::open(
+        records.bytes(),
+        places.bytes(),
+        rows,
+        width,
+        measures.places,
+    );
+    assert_eq!(opened, 0, "{}: {measures:?}", S::NAME);
+    let mut copies = Copies::open(records_len, places_len, rows, width, measures.places)
+        .expect("copies open as the store does");
+    let mut dice = Dice::new(17);
+    let mut write = |tag, row| Call::Write {
+        tag,
+        row,
+        places_len,
+        bytes: dice.bytes(width),
+    };
+    let steps = [
+        Call::Snapshot { source: 0, tag: 7 },
+        Call::Snapshot { source: 7, tag: 8 },
+        write(7, 0),
+        write(0, rows - 1),
+        write(8, 1),
+        write(7, 0),
+        Call::Delete { tag: 7 },
+        write(8, 0),
+    ];
+    let mut made = 0;
+    for step in steps {
+        compare_at::<S>(&step, &mut buffers, &mut copies);
+        compare_at::<S>(&Call::Count, &mut buffers, &mut copies);
+        for tag in copies.tags() {
+            for row in 0..rows {
+                let read = Call::Read {
+                    tag,
+                    row,
+                    places_len,
+                    out_len: width,
+                };
+                compare_at::<S>(&read, &mut buffers, &mut copies);
+                made += 1;
+            }
+        }
+        made += 2;
+    }
+    made
+}
+
+fn compare_at<S: Store>(call: &Call, buffers: &mut [Lent; 3], copies: &mut Copies) {
+    let [records, places, row_bytes] = buffers;
+    let (lent, lent_places, lent_row) = (records.bytes(), places.bytes(), row_bytes.bytes());
+    let got = match call {
+        Call::Read { tag, row, .. } => Outcome {
+            answer: S::read(lent, lent_places, *tag, *row, lent_row),
+            row: lent_row.to_vec(),
+            counts: (0, 0),
+        },
+        Call::Write {
+            tag, row, bytes, ..
+        } => {
+            lent_row.copy_from_slice(bytes);
+            Outcome::plain(S::write(lent, lent_places, *tag, *row, lent_row))
+        }
+        _ => call.on_store::<S>(lent, lent_places),
+    };
+    let remainders = [&*records, &*places, &*row_bytes].map(|b| b.remainder);
+    let wanted = call.on_copies(copies);
+    assert_eq!(got, wanted, "{}: {call:?} at {remainders:?}", S::NAME);
+    let kept = records.kept_around() && places.kept_around() && row_bytes.kept_around();
+    assert!(kept, "{}: {call:?} at {remainders:?}, beyond", S::NAME);
 }
