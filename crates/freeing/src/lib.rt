@@ -6,6 +6,7 @@ ghost use Rattle.records.specs.Records.{treeOf, tableOf, InUse};
 ghost use Rattle.table.specs.Rules.{Seeking, Judging};
 ghost use Rattle.removal.specs.Removal.{Freed};
 ghost use Rattle.freeing.specs.Freeing.{Asking, OtherMeets, OthersMeet, MeetsAlone};
+use measures::Row;
 
 // A byte as an index, and a 16-bit number.
 fn wide(x: u8) -> usize
@@ -29,10 +30,10 @@ fn other_reads<'a>(
     n: usize,
     v: usize,
     g: usize,
-    r: usize,
+    r: Row,
 ) -> bool
-    requires { ⌜ (n < 128) × Seeking (treeOf (now state) (now tag) (now parent)) (now marks) g r ⌝ }
-    ensures { λ b. ⌜ Decides b (OtherMeets (treeOf (now (state .entry)) (now (tag .entry)) (now (parent .entry))) (now (marks .entry)) v g r n) ⌝ }
+    requires { ⌜ (n < 128) × Seeking (treeOf (now state) (now tag) (now parent)) (now marks) g (r .0) ⌝ }
+    ensures { λ b. ⌜ Decides b (OtherMeets (treeOf (now (state .entry)) (now (tag .entry)) (now (parent .entry))) (now (marks .entry)) v g (r .0) n) ⌝ }
 {
     if n == v {
         return false;
@@ -54,10 +55,10 @@ fn others_read<'a>(
     marks: &'a [u8],
     v: usize,
     g: usize,
-    r: usize,
+    r: Row,
 ) -> bool
-    requires { ⌜ Seeking (treeOf (now state) (now tag) (now parent)) (now marks) g r ⌝ }
-    ensures { λ b. ⌜ Decides b (OthersMeet (treeOf (now (state .entry)) (now (tag .entry)) (now (parent .entry))) (now (marks .entry)) v g r) ⌝ }
+    requires { ⌜ Seeking (treeOf (now state) (now tag) (now parent)) (now marks) g (r .0) ⌝ }
+    ensures { λ b. ⌜ Decides b (OthersMeet (treeOf (now (state .entry)) (now (tag .entry)) (now (parent .entry))) (now (marks .entry)) v g (r .0)) ⌝ }
 {
     let mut n: usize = 0;
     while n < 128 {
@@ -77,10 +78,10 @@ fn alone<'a>(
     marks: &'a [u8],
     v: usize,
     g: usize,
-    r: usize,
+    r: Row,
 ) -> bool
-    requires { ⌜ Asking (treeOf (now state) (now tag) (now parent)) (now marks) v g r ⌝ }
-    ensures { λ b. ⌜ Decides b (MeetsAlone (treeOf (now (state .entry)) (now (tag .entry)) (now (parent .entry))) (now (marks .entry)) v g r) ⌝ }
+    requires { ⌜ Asking (treeOf (now state) (now tag) (now parent)) (now marks) v g (r .0) ⌝ }
+    ensures { λ b. ⌜ Decides b (MeetsAlone (treeOf (now (state .entry)) (now (tag .entry)) (now (parent .entry))) (now (marks .entry)) v g (r .0)) ⌝ }
 {
     if g == 0 {
         return false;
@@ -113,7 +114,7 @@ pub fn free_alone<'a>(
     let mut i: usize = 0;
     while i < node.len() {
         let g = wide(node[i]);
-        let r = wide16(row[i]);
+        let r = Row(wide16(row[i]));
         if alone(state, tag, parent, marks, v, g, r) {
             node[i] = 0;
             row[i] = 0;

@@ -5,7 +5,8 @@ ghost use lib.ListN.{length};
 ghost use Rattle.basics.specs.Decide.{Decides};
 ghost use Rattle.records.specs.Records.{treeOf, tableOf};
 ghost use Rattle.records.specs.Sound.{Linked, Excepting, AllRead};
-ghost use Rattle.table.specs.Rules.{Fitting, Entering, MarkedRow, Seeking, Seeker, Nodes, Meets, Met, Judging, ReadAt, Blank, Verdict, EntryFits, TableSound};
+ghost use Rattle.table.specs.Rules.{Fitting, slot, Entering, MarkedRow, Seeking, Seeker, Nodes, Meets, Met, Judging, ReadAt, Blank, Verdict, EntryFits, TableSound};
+use measures::Row;
 
 // A byte as an index, and a 16-bit number.
 fn wide(x: u8) -> usize
@@ -18,6 +19,14 @@ fn wide16(x: u16) -> usize
     ensures { λ r. ⌜ r ≡ x ⌝ }
 {
     x as usize
+}
+
+// Where the mark for a node and a row stands among the bits.
+fn slot(n: usize, r: Row) -> usize
+    requires { ⌜ (n < 128) × (r .0 < 1024) ⌝ }
+    ensures { λ k. ⌜ k ≡ slot n (r .0) ⌝ }
+{
+    r.0 * 128 + n
 }
 
 // Rule 6 at one entry, against those before it. An entry that meets it leaves its mark.
@@ -35,9 +44,8 @@ fn enter<'a>(
     ensures { λ r. ⌜ Verdict (EntryFits (treeOf (now (state .entry)) (now (tag .entry)) (now (parent .entry))) (tableOf rows (now (node .entry)) (now (row .entry))) i) (tableOf rows (now (node .entry)) (now (row .entry))) (i + 1) (now (marks .exit)) r ⌝ }
 {
     let n = wide(node[i]);
-    let r = wide16(row[i]);
     if n == 0 {
-        if r == 0 {
+        if row[i] == 0 {
             return true;
         }
         return false;
@@ -48,10 +56,11 @@ fn enter<'a>(
     if state[n] == 0 {
         return false;
     }
-    if r >= rows {
+    let r = Row(wide16(row[i]));
+    if !measures::has_row(rows, r) {
         return false;
     }
-    let k = r * 128 + n;
+    let k = slot(n, r);
     if bits::has(marks, k) {
         return false;
     }
@@ -90,10 +99,10 @@ pub fn meets<'a>(
     marks: &'a [u8],
     n: usize,
     g: usize,
-    r: usize,
+    r: Row,
 ) -> bool
-    requires { ⌜ Seeker (treeOf (now state) (now tag) (now parent)) (now marks) n g r ⌝ }
-    ensures { λ b. ⌜ Decides b (Meets (treeOf (now (state .entry)) (now (tag .entry)) (now (parent .entry))) (now (marks .entry)) r g n) ⌝ }
+    requires { ⌜ Seeker (treeOf (now state) (now tag) (now parent)) (now marks) n g (r .0) ⌝ }
+    ensures { λ b. ⌜ Decides b (Meets (treeOf (now (state .entry)) (now (tag .entry)) (now (parent .entry))) (now (marks .entry)) (r .0) g n) ⌝ }
 {
     let mut m = n;
     let mut k: usize = 0;
@@ -104,7 +113,7 @@ pub fn meets<'a>(
         if m == 0 {
             return false;
         }
-        if bits::has(marks, r * 128 + m) {
+        if bits::has(marks, slot(m, r)) {
             return false;
         }
         m = wide(parent[m]);
@@ -120,10 +129,10 @@ fn met<'a>(
     parent: &'a [u8; 128],
     marks: &'a [u8],
     g: usize,
-    r: usize,
+    r: Row,
 ) -> bool
-    requires { ⌜ Seeking (treeOf (now state) (now tag) (now parent)) (now marks) g r ⌝ }
-    ensures { λ b. ⌜ Decides b (Met (treeOf (now (state .entry)) (now (tag .entry)) (now (parent .entry))) (now (marks .entry)) r g) ⌝ }
+    requires { ⌜ Seeking (treeOf (now state) (now tag) (now parent)) (now marks) g (r .0) ⌝ }
+    ensures { λ b. ⌜ Decides b (Met (treeOf (now (state .entry)) (now (tag .entry)) (now (parent .entry))) (now (marks .entry)) (r .0) g) ⌝ }
 {
     let mut n: usize = 0;
     while n < 128 {
@@ -143,6 +152,7 @@ struct Children {
     after: [u8; 128],
 }
 
+// Each node's children. Only a guess is made from them, which `meets` tests: beyond being nodes they are free.
 fn kin<'a>(state: &'a [u8; 128], tag: &'a [u16; 128], parent: &'a [u8; 128]) -> Children
     requires { ⌜ Linked (treeOf (now state) (now tag) (now parent)) ⌝ }
     ensures { λ k. ⌜ Nodes (k .first) × Nodes (k .after) ⌝ }
@@ -161,15 +171,15 @@ fn kin<'a>(state: &'a [u8; 128], tag: &'a [u16; 128], parent: &'a [u8; 128]) -> 
     Children { first, after }
 }
 
-// A child of node n without a mark at row r, or 0.
+// A child of node n without a mark at row r, or 0. Part of a guess, which `meets` tests: beyond being a node it is free.
 fn open_child<'a>(
     first: &'a [u8; 128],
     after: &'a [u8; 128],
     marks: &'a [u8],
     n: usize,
-    r: usize,
+    r: Row,
 ) -> usize
-    requires { ⌜ Nodes (now first) × Nodes (now after) × MarkedRow (now marks) r × (n < 128) ⌝ }
+    requires { ⌜ Nodes (now first) × Nodes (now after) × MarkedRow (now marks) (r .0) × (n < 128) ⌝ }
     ensures { λ c. ⌜ c < 128 ⌝ }
 {
     let mut c = wide(first[n]);
@@ -178,7 +188,7 @@ fn open_child<'a>(
         if c == 0 {
             return 0;
         }
-        if !bits::has(marks, r * 128 + c) {
+        if !bits::has(marks, slot(c, r)) {
             return c;
         }
         c = wide(after[c]);
@@ -187,16 +197,17 @@ fn open_child<'a>(
     0
 }
 
-// A node that may be a living one that reads node g's own row r: down from g, past ghosts, where no mark is. Only a guess.
+// A node that may be a living one that reads node g's own row r: down from g, past ghosts, where no mark is.
+// Only a guess, which `meets` tests: beyond being a node it is free.
 fn likely<'a>(
     state: &'a [u8; 128],
     first: &'a [u8; 128],
     after: &'a [u8; 128],
     marks: &'a [u8],
     g: usize,
-    r: usize,
+    r: Row,
 ) -> usize
-    requires { ⌜ Nodes (now first) × Nodes (now after) × MarkedRow (now marks) r × (g < 128) ⌝ }
+    requires { ⌜ Nodes (now first) × Nodes (now after) × MarkedRow (now marks) (r .0) × (g < 128) ⌝ }
     ensures { λ n. ⌜ n < 128 ⌝ }
 {
     let mut n = g;
@@ -220,10 +231,10 @@ fn seen<'a>(
     after: &'a [u8; 128],
     marks: &'a [u8],
     g: usize,
-    r: usize,
+    r: Row,
 ) -> bool
-    requires { ⌜ Seeking (treeOf (now state) (now tag) (now parent)) (now marks) g r × Nodes (now first) × Nodes (now after) × (g < 128) ⌝ }
-    ensures { λ b. ⌜ Decides b (Met (treeOf (now (state .entry)) (now (tag .entry)) (now (parent .entry))) (now (marks .entry)) r g) ⌝ }
+    requires { ⌜ Seeking (treeOf (now state) (now tag) (now parent)) (now marks) g (r .0) × Nodes (now first) × Nodes (now after) × (g < 128) ⌝ }
+    ensures { λ b. ⌜ Decides b (Met (treeOf (now (state .entry)) (now (tag .entry)) (now (parent .entry))) (now (marks .entry)) (r .0) g) ⌝ }
 {
     let n = likely(state, first, after, marks, g, r);
     if state[n] == 1 {
@@ -257,7 +268,7 @@ fn is_read<'a>(
     if state[g] == 1 {
         return true;
     }
-    let r = wide16(row[i]);
+    let r = Row(wide16(row[i]));
     if seen(state, tag, parent, first, after, marks, g, r) {
         return true;
     }

@@ -10,7 +10,7 @@ use Rattle.freeing.proofs.others_read.Statement.{statement}
 use Rattle.freeing.proofs.others_read.Tie as tie
 
 abbrev Inv-loop : tie.InvT-loop
-Inv-loop state tag parent marks v g r n₀ n = (n ≤ 128) × ((k : ℕ) → k < n → OtherMeets (treeOf state tag parent) marks v g r k → ⊥)
+Inv-loop state tag parent marks v g r n₀ n = (n ≤ 128) × ((k : ℕ) → k < n → OtherMeets (treeOf state tag parent) marks v g (r .0) k → ⊥)
 
 abbrev μ-loop : tie.MeasureT-loop
 μ-loop state tag parent marks v g r n₀ n = 128 - n

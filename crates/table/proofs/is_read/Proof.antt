@@ -27,7 +27,7 @@ returns-2 : tie.Need-returns-2
 returns-2 c =
     let w = c .before .before .before in
     let s = w .before .before .before .before .before in
-    read-own _ _ (s .args .marks .now) (s .pre .3) (s .args .i) (s .pre .0) (ap (at (s .args .state .now)) (sym (w .wide .ensures)) ∙ c .if2 .taken)
+    read-own _ _ (s .args .marks .now) (s .pre .3) (s .args .i) (s .pre .0) (omega (arith, ap (at (s .args .state .now)) (w .wide .ensures), c .if2 .taken))
 
 mul-wide16 : tie.Need-mul-wide16
 mul-wide16 c = search needs

@@ -12,7 +12,7 @@ use Rattle.table.proofs.meets.Statement.{statement}
 use Rattle.table.proofs.meets.Tie as tie
 
 abbrev Inv-loop : tie.InvT-loop
-Inv-loop state tag parent marks n g r m₀ k₀ m k = Climbing (treeOf state tag parent) n m k × (Meets (treeOf state tag parent) marks r g n ↔ Meets (treeOf state tag parent) marks r g m)
+Inv-loop state tag parent marks n g r m₀ k₀ m k = Climbing (treeOf state tag parent) n m k × (Meets (treeOf state tag parent) marks (r .0) g n ↔ Meets (treeOf state tag parent) marks (r .0) g m)
 
 abbrev μ-loop : tie.MeasureT-loop
 μ-loop state tag parent marks n g r m₀ k₀ m k = 128 - k
@@ -26,21 +26,19 @@ returns c = c .before .before .loop .inv .1 .1 (here (c .if1 .taken))
 returns-2 : tie.Need-returns-2 Inv-loop μ-loop
 returns-2 c = λ d. meets-root _ _ _ _ (c .before .if1 .left) (c .if2 .taken) (c .before .before .before .loop .inv .1 .0 d)
 
-mul-has : tie.Need-mul-has Inv-loop μ-loop
-mul-has c = search needs
-
-add-has : tie.Need-add-has Inv-loop μ-loop
-add-has c = search needs
+slot-requires : tie.Need-slot-requires Inv-loop μ-loop
+slot-requires c κs = search needs
 
 has-requires : tie.Need-has-requires Inv-loop μ-loop
 has-requires c κs = search needs
 
 returns-3 : tie.Need-returns-3 Inv-loop μ-loop
 returns-3 c = λ d.
-    let e = c .before .before in
+    let p = c .before .before in
+    let e = p .before in
     let l = e .before .before .before in
     let a = l .before .before .args in
-    meets-marked _ (a .marks .now) _ _ (e .before .if1 .left) (sym (c .before .has .ensures) ∙ c .if3 .taken) (l .loop .inv .1 .0 d)
+    meets-marked _ (a .marks .now) _ _ (e .before .if1 .left) (rw (p .slot .ensures) at (sym (c .before .has .ensures) ∙ c .if3 .taken)) (l .loop .inv .1 .0 d)
 
 element-copy-out-wide : tie.Need-element-copy-out-wide Inv-loop μ-loop
 element-copy-out-wide c = search needs
@@ -57,11 +55,12 @@ loop-less c = search needs
 loop-again : tie.Need-loop-again Inv-loop μ-loop
 loop-again c =
     let f = c .before .before in
-    let z = f .before .before in
+    let p = f .before .before in
+    let z = p .before in
     let l = z .before .before .before in
     let a = l .before .before .args in
     let v = l .loop .inv in
-    let h = meets-up _ (a .marks .now) _ _ (z .before .if1 .left) (z .if2 .left) (sym (f .before .has .ensures) ∙ f .if3 .left) in
+    let h = meets-up _ (a .marks .now) _ _ (z .before .if1 .left) (z .if2 .left) (rw (p .slot .ensures) at (sym (f .before .has .ensures) ∙ f .if3 .left)) in
     rw (c .wide .ensures) (
       climb-step _ _ _ _ (λ n k. l .before .before .pre .seeking .linked .parent n) (z .before .before .loop-test .taken) (z .if2 .left) (v .0),
       (λ d. h .0 (v .1 .0 d), λ d. v .1 .1 (h .1 d)),
@@ -83,8 +82,7 @@ meets-spec =
     loop-holds
     returns
     returns-2
-    mul-has
-    add-has
+    slot-requires
     has-requires
     returns-3
     element-copy-out-wide

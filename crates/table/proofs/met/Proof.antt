@@ -12,7 +12,7 @@ use Rattle.table.proofs.met.Statement.{statement}
 use Rattle.table.proofs.met.Tie as tie
 
 abbrev Inv-loop : tie.InvT-loop
-Inv-loop state tag parent marks g r n₀ n = (n ≤ 128) × ((k : ℕ) → k < n → at state k ≡ 1 → Meets (treeOf state tag parent) marks r g k → ⊥)
+Inv-loop state tag parent marks g r n₀ n = (n ≤ 128) × ((k : ℕ) → k < n → at state k ≡ 1 → Meets (treeOf state tag parent) marks (r .0) g k → ⊥)
 
 abbrev μ-loop : tie.MeasureT-loop
 μ-loop state tag parent marks g r n₀ n = 128 - n

@@ -23,11 +23,8 @@ loop-holds c = let p = c .before .before .before .pre in omega (arith, p .0 .nod
 returns : tie.Need-returns Inv-loop μ-loop
 returns c = search needs
 
-mul-has : tie.Need-mul-has Inv-loop μ-loop
-mul-has c = search needs
-
-add-has : tie.Need-add-has Inv-loop μ-loop
-add-has c = search needs
+slot-requires : tie.Need-slot-requires Inv-loop μ-loop
+slot-requires c κs = search needs
 
 has-requires : tie.Need-has-requires Inv-loop μ-loop
 has-requires c κs = search needs
@@ -49,7 +46,7 @@ loop-less c = search needs
 
 loop-again : tie.Need-loop-again Inv-loop μ-loop
 loop-again c =
-    let l = c .before .before .before .before .before .before in
+    let l = c .before .before .before .before .before .before .before in
     omega (arith, l .before .before .before .before .pre .1 .node _ (l .loop .inv), c .wide2 .ensures)
 
 returns-3 : tie.Need-returns-3 Inv-loop μ-loop
@@ -65,8 +62,7 @@ open-child-spec =
     wide-requires
     loop-holds
     returns
-    mul-has
-    add-has
+    slot-requires
     has-requires
     returns-2
     element-copy-out-wide-2
