@@ -1,0 +1,16 @@
+// Small numbers as indices. A cast that stands alone asks for no proof of the byte that it casts.
+ghost use mathlib.Core.Path.{_≡_};
+
+// A byte.
+pub fn byte(x: u8) -> usize
+    ensures { λ r. ⌜ r ≡ x ⌝ }
+{
+    x as usize
+}
+
+// A number of 16 bits.
+pub fn pair(x: u16) -> usize
+    ensures { λ r. ⌜ r ≡ x ⌝ }
+{
+    x as usize
+}
