@@ -1,5 +1,5 @@
 -- The ways out of read, one for each test, and that a place read lies inside the places. Assumes nothing.
-use mathlib.Core.Path.{_≡_, refl, sym, _∙_}
+use mathlib.Core.Path.{_≡_, refl, sym, _∙_, ap}
 use mathlib.Core.Bool.{not}
 use mathlib.Core.List.{List, [], _∷_}
 use mathlib.Core.Option.{none, some}
@@ -76,7 +76,9 @@ module _ (z : Records) (places : List ℕ) (tag r : ℕ) where
         unfolding tagTest lives readAnswer rowOfTag tagPlace partFrom
         read-done n v h m =
             let e : refusal (readTests z (length places) tag r) ≡ none = row-passed ∙ refusal-next unknown-tag [] (rw v) ∙ refusal-none in
-            (judged-sound s (record { numbered = rw e; handed = rw (e, v) h }), judged-sound s (rw (e, v) m))
+            let f : tagPlace z tag r ≡ place (z .tree) (table z) n r = rw v in
+            let g : partFrom z (length places) tag r ≡ beginsAt (z .size .width) (place (z .tree) (table z) n r) = rw e (ap (beginsAt (z .size .width)) f) in
+            (judged-sound s (record { numbered = rw e; handed = rw (e, v) h }), judged-sound s (rw g m))
 
 -- the node of a living version is in use, and the lookup may start from it
 pub version-used : (t : Tree) (tag n : ℕ) → version t tag ≡ some n → InUse t n

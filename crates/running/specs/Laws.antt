@@ -29,9 +29,10 @@ use Rattle.commands.specs.declared.Step.{Step}
 use Rattle.commands.specs.declared.Command.the-variants.{Over, Read, Write}
 use Rattle.commands.specs.Format.{refusalOf, stepAt, callAt, rowAt, callsFrom, endFrom}
 use Rattle.commands.specs.Laws.{stands, step-over, call-next, call-inside, not-over, step-number, write-inside}
-use Rattle.running.specs.declared.Progress.{Progress}
-use Rattle.running.specs.Output.{numbered, endLine, textFrom, lineRoom}
-use Rattle.running.specs.Turns.{recordsIn, stopped, Room, Ready, shownBy, Answered, Stopped, Onward, Turned}
+use Rattle.replies.specs.declared.Progress.{Progress}
+use Rattle.running.specs.Output.{numbered, endLine, textFrom}
+use Rattle.replies.specs.Replying.{lineRoom, recordsIn, stopped, Room, shownBy, Answered, Stopped}
+use Rattle.running.specs.Turns.{Ready, Onward, Turned}
 
 -- A line says the same by the answer and by what is handed out
 

@@ -1,5 +1,4 @@
 pub mod Output
 pub mod Turns
 pub mod Laws
-pub mod Replies
 pub mod Loop

@@ -26,9 +26,10 @@ use Rattle.laying.specs.Laid.{Lays}
 use Rattle.laying.specs.Laws.{lays-none, lays-then, lays-as}
 use Rattle.commands.specs.declared.Step.{Step}
 use Rattle.commands.specs.Format.{stepAt, callsFrom, calls}
-use Rattle.running.specs.declared.Progress.{Progress}
-use Rattle.running.specs.Output.{textFrom, output, lastModel, lineRoom, Ran-all, runTests, Kept, StreamEnds}
-use Rattle.running.specs.Turns.{recordsIn, Ready, reached, Turned}
+use Rattle.replies.specs.declared.Progress.{Progress}
+use Rattle.running.specs.Output.{textFrom, output, lastModel, Ran-all, runTests, Kept, StreamEnds}
+use Rattle.running.specs.Turns.{Ready, reached, Turned}
+use Rattle.replies.specs.Replying.{lineRoom, recordsIn}
 use Rattle.running.specs.Laws.{text-over, final-over, left-over}
 
 -- a run at its start, with room for every line

@@ -18,6 +18,7 @@ use Rattle.theorem.specs.Trace.{state, leftBy}
 use Rattle.steps.specs.Calls.{Runs}
 use Rattle.text.specs.Text.{answerLine}
 use Rattle.laying.specs.Laid.{Lays}
+use Rattle.replies.specs.Replying.{lineRoom}
 use Rattle.commands.specs.Format.{refusalOf, callsFrom, endFrom, calls}
 
 -- the lines of a list of answers, numbered from k on
@@ -42,10 +43,6 @@ module _ (z : Size) (s : List ℕ) where
 
   abbrev pub lastModel : Model → Model
   lastModel m = final z m (calls (z .width) s)
-
--- bytes that a line takes at most, where a row has `width`
-abbrev pub lineRoom : ℕ → ℕ
-lineRoom width = 20 + 2 * width
 
 -- A whole stream: its output was laid at the front; records and places are those that its calls leave, one after the other, to the last byte; and
 -- the store is one that the last model has

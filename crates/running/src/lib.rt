@@ -2,181 +2,16 @@
 ghost use mathlib.Core.Path.{_≡_};
 ghost use Prim.Native.Nat.{_+_, _*_, _≤_};
 ghost use Rattle.records.specs.Records.{recordsOf};
-ghost use Rattle.model.specs.Call.{snapshot, read, write, delete, count};
-ghost use Rattle.running.specs.Output.{lineRoom, StreamEnds};
-ghost use Rattle.running.specs.Turns.{onward, stopped, Room, Answered, Answers, Stopped, Ready, Turned};
+ghost use Rattle.replies.specs.Replying.{lineRoom};
+ghost use Rattle.running.specs.Output.{StreamEnds};
+ghost use Rattle.running.specs.Turns.{Ready, Turned};
 ghost use Rattle.running.specs.Loop.{Begins, Through};
 use commands::Command;
 use commands::Step;
 use measures::Row;
 use measures::Size;
 use records::Tree;
-
-// A run between two commands: the store's size and tree, the end of the text so far, the next line's number, and whether it goes on.
-struct Progress {
-    size: Size,
-    tree: Tree,
-    end: usize,
-    line: usize,
-    going: bool,
-}
-
-fn wide(x: u8) -> usize
-    ensures { λ r. ⌜ r ≡ x ⌝ }
-{
-    x as usize
-}
-
-fn wide16(x: u16) -> usize
-    ensures { λ r. ⌜ r ≡ x ⌝ }
-{
-    x as usize
-}
-
-// The run behind a call that left a tree, and whose line ends at `end`.
-fn on(run: Progress, tree: Tree, end: usize) -> Progress
-    requires { ⌜ run .line ≤ 4097 ⌝ }
-    ensures { λ r. ⌜ r ≡ onward run tree end ⌝ }
-{
-    let size = run.size;
-    let line = run.line + 1;
-    Progress {
-        size,
-        tree,
-        end,
-        line,
-        going: true,
-    }
-}
-
-// The run at its end.
-fn over(run: Progress, end: usize) -> Progress
-    ensures { λ r. ⌜ r ≡ stopped run end ⌝ }
-{
-    let size = run.size;
-    let tree = run.tree;
-    let line = run.line;
-    Progress {
-        size,
-        tree,
-        end,
-        line,
-        going: false,
-    }
-}
-
-// A snapshot, and its line.
-fn reply_snapshot<'a>(
-    run: Progress,
-    node: &'a [u8],
-    row: &'a [u16],
-    source: u16,
-    tag: u16,
-    out: &mut [u8],
-) -> Progress
-    requires { ⌜ Room run 12 (now out) ⌝ }
-    ensures { λ r. ⌜ Answers run (now (node .entry)) (now (row .entry)) (snapshot source tag) (now (out .entry)) r (now (node .entry)) (now (row .entry)) (now (out .exit)) ⌝ }
-{
-    let tree = run.tree;
-    let s = snapshots::snapshot(run.size, tree, node, row, source, tag);
-    let answer = wide(s.answer);
-    let next = s.tree;
-    let end = text::plain_line(out, run.end, run.line, answer);
-    on(run, next, end)
-}
-
-// A delete, and its line.
-fn reply_delete(
-    run: Progress,
-    node: &mut [u8],
-    row: &mut [u16],
-    tag: u16,
-    out: &mut [u8],
-) -> Progress
-    requires { ⌜ Room run 12 (now out) ⌝ }
-    ensures { λ r. ⌜ Answers run (now (node .entry)) (now (row .entry)) (delete tag) (now (out .entry)) r (now (node .exit)) (now (row .exit)) (now (out .exit)) ⌝ }
-{
-    let tree = run.tree;
-    let d = deleting::delete(run.size, tree, node, row, tag);
-    let answer = wide(d.answer);
-    let next = d.tree;
-    let end = text::plain_line(out, run.end, run.line, answer);
-    on(run, next, end)
-}
-
-// A write, and its line.
-fn reply_write(
-    run: Progress,
-    node: &mut [u8],
-    row: &mut [u16],
-    places: &mut [u8],
-    tag: u16,
-    r: Row,
-    bytes: &[u8],
-    out: &mut [u8],
-) -> Progress
-    requires { ⌜ Room run 12 (now out) ⌝ }
-    ensures { λ w. ⌜ Answered run (now (node .entry)) (now (row .entry)) (now (places .entry)) (write tag (r .0) (now (bytes .entry))) (now (out .entry))
-        w (now (node .exit)) (now (row .exit)) (now (places .exit)) (now (out .exit)) ⌝ }
-{
-    let tree = run.tree;
-    let w = writing::write(run.size, tree, node, row, places, tag, r, bytes);
-    let answer = wide(w.answer);
-    let next = w.tree;
-    let end = text::plain_line(out, run.end, run.line, answer);
-    on(run, next, end)
-}
-
-// A count, and its line.
-fn reply_count<'a>(run: Progress, node: &'a [u8], row: &'a [u16], out: &mut [u8]) -> Progress
-    requires { ⌜ Room run 20 (now out) ⌝ }
-    ensures { λ r. ⌜ Answers run (now (node .entry)) (now (row .entry)) count (now (out .entry)) r (now (node .entry)) (now (row .entry)) (now (out .exit)) ⌝ }
-{
-    let tree = run.tree;
-    let c = queries::count(run.size, tree, node, row);
-    let answer = wide(c.answer);
-    if answer != 0 {
-        let end = text::plain_line(out, run.end, run.line, answer);
-        return on(run, tree, end);
-    }
-    let end = text::count_line(out, run.end, run.line, c.used, c.snapshots);
-    on(run, tree, end)
-}
-
-// A read, and its line.
-fn reply_read<'a>(
-    run: Progress,
-    node: &'a [u8],
-    row: &'a [u16],
-    places: &'a [u8],
-    tag: u16,
-    r: Row,
-    out: &mut [u8],
-) -> Progress
-    requires { ⌜ Room run (lineRoom (run .size .width)) (now out) ⌝ }
-    ensures { λ w. ⌜ Answered run (now (node .entry)) (now (row .entry)) (now (places .entry)) (read tag (r .0)) (now (out .entry))
-        w (now (node .entry)) (now (row .entry)) (now (places .entry)) (now (out .exit)) ⌝ }
-{
-    let tree = run.tree;
-    let mut number: u8 = 0;
-    let bytes = queries::read(run.size, tree, node, row, places, tag, r, &mut number);
-    let answer = wide(number);
-    if answer != 0 {
-        let end = text::plain_line(out, run.end, run.line, answer);
-        return on(run, tree, end);
-    }
-    let end = text::row_line(out, run.end, run.line, bytes);
-    on(run, tree, end)
-}
-
-// The last line of a stream that ends badly.
-fn stop(run: Progress, number: u8, out: &mut [u8]) -> Progress
-    requires { ⌜ Room run 12 (now out) ⌝ }
-    ensures { λ r. ⌜ Stopped run number (now (out .entry)) r (now (out .exit)) ⌝ }
-{
-    let end = text::plain_line(out, run.end, run.line, wide(number));
-    over(run, end)
-}
+use replies::Progress;
 
 // What stands at a position of the stream, and its line. An unknown command, or one that is cut, is the last.
 fn serve(
@@ -195,20 +30,20 @@ fn serve(
 {
     let found = step.command;
     match found {
-        Command::Snapshot { source, tag } => reply_snapshot(run, node, row, source, tag, out),
+        Command::Snapshot { source, tag } => replies::snapshot(run, node, row, source, tag, out),
         Command::Read { tag, row: r } => {
-            reply_read(run, node, row, places, tag, Row(wide16(r)), out)
+            replies::read(run, node, row, places, tag, Row(widen::pair(r)), out)
         }
         Command::Write { tag, row: r } => {
             let width = run.size.width;
             let bytes = &stream[at + 5..at + 5 + width];
-            reply_write(run, node, row, places, tag, Row(wide16(r)), bytes, out)
+            replies::write(run, node, row, places, tag, Row(widen::pair(r)), bytes, out)
         }
-        Command::Delete { tag } => reply_delete(run, node, row, tag, out),
-        Command::Count => reply_count(run, node, row, out),
-        Command::Unknown => stop(run, step.number, out),
-        Command::Cut => stop(run, step.number, out),
-        Command::Over => over(run, run.end),
+        Command::Delete { tag } => replies::delete(run, node, row, tag, out),
+        Command::Count => replies::count(run, node, row, out),
+        Command::Unknown => replies::stop(run, step.number, out),
+        Command::Cut => replies::stop(run, step.number, out),
+        Command::Over => replies::over(run, run.end),
     }
 }
 

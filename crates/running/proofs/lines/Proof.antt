@@ -8,9 +8,9 @@ use denote.Struct.Laws as laws
 use Rattle.commands.specs.Format.{stepAt}
 use Rattle.running.specs.Turns.{Ready, reached, Turned}
 use Rattle.running.specs.Loop.{Begins, Through, toGo, Going, going-start, going-ready, going-next, going-less, going-end}
-use Rattle.running.proofs.Progress as G
-use Rattle.running.proofs.Progress.Laws as G′
-use Rattle.running.proofs.Turns.{Carried, Facts, look-part, lines-meets}
+use Rattle.replies.proofs.Progress as G
+use Rattle.replies.proofs.Progress.Laws as G′
+use Rattle.turning.proofs.Turns.{Carried, Facts, look-part, lines-meets}
 use Rattle.commands.proofs.make.Symbol as make
 use Rattle.commands.proofs.make.Met as make-thm
 use Rattle.commands.proofs.moved.Symbol as moved

@@ -9,17 +9,17 @@ use Rattle.running.proofs.serve.Tie as tie
 enum-known-found : tie.Need-enum-known-found
 enum-known-found c = search needs
 
-reply-snapshot-requires : tie.Need-reply-snapshot-requires
-reply-snapshot-requires c κs = ready-room (c .before .before .before .before .before .before .before .before .before .before .before .pre) 12 (c .before .before .before .before .found .given .1) refl (omega arith)
+snapshot-requires : tie.Need-snapshot-requires
+snapshot-requires c κs = ready-room (c .before .before .before .before .before .before .before .before .before .before .before .pre) 12 (c .before .before .before .before .found .given .1) refl (omega arith)
 
 enum-known-found-2 : tie.Need-enum-known-found-2
 enum-known-found-2 c = search needs
 
-wide16-requires : tie.Need-wide16-requires
-wide16-requires c κs = search needs
+pair-requires : tie.Need-pair-requires
+pair-requires c κs = search needs
 
-reply-read-requires : tie.Need-reply-read-requires
-reply-read-requires c κs = ready-room (c .before .before .before .before .before .before .before .before .before .before .before .before .before .pre) _ (c .before .before .before .before .before .before .found2 .given .1) refl (omega arith)
+read-requires : tie.Need-read-requires
+read-requires c κs = ready-room (c .before .before .before .before .before .before .before .before .before .before .before .before .before .pre) _ (c .before .before .before .before .before .before .found2 .given .1) refl (omega arith)
 
 enum-known-found-3 : tie.Need-enum-known-found-3
 enum-known-found-3 c = search needs
@@ -42,23 +42,23 @@ part-bytes-start c = search needs
 part-bytes-end : tie.Need-part-bytes-end
 part-bytes-end c = omega (arith, ready-write (c .before .before .before .before .before .before .before .before .pre) (c .before .found3 .given .1))
 
-wide16-requires-2 : tie.Need-wide16-requires-2
-wide16-requires-2 c κs = search needs
+pair-requires-2 : tie.Need-pair-requires-2
+pair-requires-2 c κs = search needs
 
-reply-write-requires : tie.Need-reply-write-requires
-reply-write-requires c κs = ready-room (c .before .before .before .before .before .before .before .before .before .before .before .before .before .before .pre) 12 (c .before .before .before .before .before .before .before .found3 .given .1) refl (omega arith)
+write-requires : tie.Need-write-requires
+write-requires c κs = ready-room (c .before .before .before .before .before .before .before .before .before .before .before .before .before .before .pre) 12 (c .before .before .before .before .before .before .before .found3 .given .1) refl (omega arith)
 
 enum-known-found-4 : tie.Need-enum-known-found-4
 enum-known-found-4 c = search needs
 
-reply-delete-requires : tie.Need-reply-delete-requires
-reply-delete-requires c κs = ready-room (c .before .before .before .before .before .before .before .before .before .before .before .pre) 12 (c .before .before .before .before .found4 .given .1) refl (omega arith)
+delete-requires : tie.Need-delete-requires
+delete-requires c κs = ready-room (c .before .before .before .before .before .before .before .before .before .before .before .pre) 12 (c .before .before .before .before .found4 .given .1) refl (omega arith)
 
 enum-told : tie.Need-enum-told
 enum-told c = search needs
 
-reply-count-requires : tie.Need-reply-count-requires
-reply-count-requires c κs = ready-room (c .before .before .before .before .before .before .before .before .before .before .pre) 20 (c .before .before .before .enum-told .given .1) refl (omega arith)
+count-requires : tie.Need-count-requires
+count-requires c κs = ready-room (c .before .before .before .before .before .before .before .before .before .before .pre) 20 (c .before .before .before .enum-told .given .1) refl (omega arith)
 
 enum-told-2 : tie.Need-enum-told-2
 enum-told-2 c = search needs
@@ -88,7 +88,7 @@ same-length-3 : tie.Need-same-length-3
 same-length-3 c = search needs
 
 returns : tie.Need-returns
-returns c = turn-step _ (c .before .before .before .before .before .before .before .before .before .before .before .before .before .before .pre .stands) (c .before .before .before .before .before .before .before .found .given .1) refl (c .before .before .reply-snapshot .ensures _)
+returns c = turn-step _ (c .before .before .before .before .before .before .before .before .before .before .before .before .before .before .pre .stands) (c .before .before .before .before .before .before .before .found .given .1) refl (c .before .before .snapshot .ensures _)
 
 same-length-4 : tie.Need-same-length-4
 same-length-4 c = search needs
@@ -103,7 +103,7 @@ same-length-7 : tie.Need-same-length-7
 same-length-7 c = search needs
 
 returns-2 : tie.Need-returns-2
-returns-2 c = turn-read (c .before .before .before .before .before .before .before .before .before .before .before .before .before .before .before .before .pre .stands) (c .before .before .before .before .before .before .before .before .before .found2 .given .1) (c .before .before .before .before .wide16 .ensures) (c .before .before .reply-read .ensures)
+returns-2 c = turn-read (c .before .before .before .before .before .before .before .before .before .before .before .before .before .before .before .before .pre .stands) (c .before .before .before .before .before .before .before .before .before .found2 .given .1) (c .before .before .before .before .pair .ensures) (c .before .before .read .ensures)
 
 same-length-8 : tie.Need-same-length-8
 same-length-8 c = search needs
@@ -118,7 +118,7 @@ same-length-11 : tie.Need-same-length-11
 same-length-11 c = search needs
 
 returns-3 : tie.Need-returns-3
-returns-3 c = turn-write (c .before .before .before .before .before .before .before .before .before .before .before .before .before .before .before .before .before .before .before .before .before .before .before .pre .stands) (c .before .before .before .before .before .before .before .before .before .before .before .before .before .before .before .before .found3 .given .1) (c .before .before .before .before .before .before .before .before .before .before .wide162 .ensures) (row-part _ _ _) (c .before .before .before .before .before .before .before .before .reply-write .ensures)
+returns-3 c = turn-write (c .before .before .before .before .before .before .before .before .before .before .before .before .before .before .before .before .before .before .before .before .before .before .before .pre .stands) (c .before .before .before .before .before .before .before .before .before .before .before .before .before .before .before .before .found3 .given .1) (c .before .before .before .before .before .before .before .before .before .before .pair2 .ensures) (row-part _ _ _) (c .before .before .before .before .before .before .before .before .write .ensures)
 
 same-length-12 : tie.Need-same-length-12
 same-length-12 c = search needs
@@ -130,7 +130,7 @@ same-length-14 : tie.Need-same-length-14
 same-length-14 c = search needs
 
 returns-4 : tie.Need-returns-4
-returns-4 c = turn-step _ (c .before .before .before .before .before .before .before .before .before .before .before .before .before .before .before .before .before .before .pre .stands) (c .before .before .before .before .before .before .before .before .before .before .before .found4 .given .1) refl (c .before .before .before .before .before .before .reply-delete .ensures _)
+returns-4 c = turn-step _ (c .before .before .before .before .before .before .before .before .before .before .before .before .before .before .before .before .before .before .pre .stands) (c .before .before .before .before .before .before .before .before .before .before .before .found4 .given .1) refl (c .before .before .before .before .before .before .delete .ensures _)
 
 same-length-15 : tie.Need-same-length-15
 same-length-15 c = search needs
@@ -142,7 +142,7 @@ same-length-17 : tie.Need-same-length-17
 same-length-17 c = search needs
 
 returns-5 : tie.Need-returns-5
-returns-5 c = turn-step _ (c .before .before .before .before .before .before .before .before .before .before .before .before .before .pre .stands) (c .before .before .before .before .before .before .enum-told .given .1) refl (c .before .before .reply-count .ensures _)
+returns-5 c = turn-step _ (c .before .before .before .before .before .before .before .before .before .before .before .before .before .pre .stands) (c .before .before .before .before .before .before .enum-told .given .1) refl (c .before .before .count .ensures _)
 
 same-length-18 : tie.Need-same-length-18
 same-length-18 c = search needs
@@ -164,10 +164,10 @@ serve-spec =
     tie.close
     (tie.spec
     enum-known-found
-    reply-snapshot-requires
+    snapshot-requires
     enum-known-found-2
-    wide16-requires
-    reply-read-requires
+    pair-requires
+    read-requires
     enum-known-found-3
     add-bytes
     add-bytes-2
@@ -175,12 +175,12 @@ serve-spec =
     sub-bytes
     part-bytes-start
     part-bytes-end
-    wide16-requires-2
-    reply-write-requires
+    pair-requires-2
+    write-requires
     enum-known-found-4
-    reply-delete-requires
+    delete-requires
     enum-told
-    reply-count-requires
+    count-requires
     enum-told-2
     stop-requires
     enum-told-3

@@ -59,7 +59,7 @@ use Rattle.commands.proofs.Step.Laws as S′
 use Rattle.commands.proofs.Told as told
 use Rattle.commands.proofs.Told.{Form, Told, chosen, token, hears}
 use Rattle.commands.proofs.Readers.{reader, a-step, Make, Moved, Takes, Within}
-use Rattle.running.proofs.Borrowed.{Borrow, borrowed, ref, val, Mine, Lent, goes-out, comes-home}
+use Rattle.turning.proofs.Borrowed.{Borrow, borrowed, ref, val, Mine, Lent, goes-out, comes-home}
 
 -- ---- the run that goes from turn to turn: a type of plain data with a field that says whether there is another
 pub record Carried : Type 2 where

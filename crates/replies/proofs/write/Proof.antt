@@ -1,15 +1,15 @@
--- `running::reply_write` meets its contract. Assumes nothing.
+-- `replies::write` meets its contract. Assumes nothing.
 use borrow.Author.Needs.{needs}
 use Rattle.records.specs.Records.{recordsOf}
-use Rattle.running.specs.Replies.{write-replied, answered}
-use Rattle.running.proofs.reply_write.Statement.{statement}
-use Rattle.running.proofs.reply_write.Tie as tie
+use Rattle.replies.specs.Laws.{write-replied, answered}
+use Rattle.replies.proofs.write.Statement.{statement}
+use Rattle.replies.proofs.write.Tie as tie
 
 write-requires : tie.Need-write-requires
 write-requires c κs = search needs
 
-wide-requires : tie.Need-wide-requires
-wide-requires c κs = search needs
+byte-requires : tie.Need-byte-requires
+byte-requires c κs = search needs
 
 plain-line-requires : tie.Need-plain-line-requires
 plain-line-requires c κs = search needs
@@ -30,14 +30,14 @@ same-length-4 : tie.Need-same-length-4
 same-length-4 c = search needs
 
 returns : tie.Need-returns
-returns c = answered (c .on .ensures) (write-replied (recordsOf _ _ _ _) _ (c .before .before .before .before .before .before .wide .ensures) (c .before .before .before .before .before .before .before .before .before .before .before .before .before .write .ensures) (c .before .before .before .plain-line .ensures))
+returns c = answered (c .on .ensures) (write-replied (recordsOf _ _ _ _) _ (c .before .before .before .before .before .before .byte .ensures) (c .before .before .before .before .before .before .before .before .before .before .before .before .before .write .ensures) (c .before .before .before .plain-line .ensures))
 
-pub reply-write-spec : {M : Type 1} → statement M
-reply-write-spec =
+pub write-spec : {M : Type 1} → statement M
+write-spec =
     tie.close
     (tie.spec
     write-requires
-    wide-requires
+    byte-requires
     plain-line-requires
     on-requires
     same-length

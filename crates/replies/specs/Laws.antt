@@ -25,8 +25,8 @@ use Rattle.text.specs.Text.{line, dash, hex, pairText}
 use Rattle.laying.specs.Laid.{Lays}
 use Rattle.laying.specs.Laws.{lays-as}
 use Rattle.text.specs.Laws.{hex-size, pair-most}
-use Rattle.running.specs.declared.Progress.{Progress}
-use Rattle.running.specs.Turns.{recordsIn, onward, stopped, Replied, Answered, Stopped}
+use Rattle.replies.specs.declared.Progress.{Progress}
+use Rattle.replies.specs.Replying.{recordsIn, onward, stopped, Replied, Answered, Stopped}
 
 -- A read hands out a row's bytes at most
 
