@@ -1,0 +1,94 @@
+//! That nothing is forgotten: the archive exports, the header declares and the guarantee's lists speak of the same calls.
+#![cfg(feature = "linked")]
+
+use std::collections::BTreeSet;
+use std::fs;
+use std::path::{Path, PathBuf};
+use std::process::Command;
+
+const ARCHIVE: &str = "target/staticlib/librowstore.a";
+const HEADER: &str = "include/rowstore.h";
+const CALLS: &str = "crates/hosting/specs/Calls.antt";
+
+type Names = BTreeSet<String>;
+
+fn in_project(path: &str) -> PathBuf {
+    Path::new(env!("CARGO_MANIFEST_DIR")).join("..").join(path)
+}
+
+fn text(path: &str) -> String {
+    fs::read_to_string(in_project(path)).unwrap_or_else(|error| panic!("{path}: {error}"))
+}
+
+/// Every global name that the archive defines.
+fn exported() -> Names {
+    let mut nm = Command::new("nm");
+    nm.args(["--extern-only", "--defined-only", "--format=posix"]);
+    let output = nm.arg(in_project(ARCHIVE)).output().expect("nm runs");
+    let said = String::from_utf8_lossy(&output.stderr);
+    assert!(output.status.success(), "{ARCHIVE}: nm: {said}");
+    let listed = String::from_utf8(output.stdout).expect("names in UTF-8");
+    // A line that ends in a colon names a member of the archive.
+    let lines = listed.lines().filter(|line| !line.ends_with(':'));
+    let first = |line: &str| line.split_whitespace().next().map(str::to_string);
+    lines.filter_map(first).collect()
+}
+
+/// C's text without comments and without what is for the preprocessor.
+fn bare(text: &str) -> String {
+    let mut parts = text.split("/*");
+    let mut code = parts.next().unwrap_or_default().to_string();
+    for part in parts {
+        code += part.split_once("*/").expect("a comment ends").1;
+    }
+    let code = code.replace("\\\n", " ");
+    let lines = code.lines().filter(|line| !line.starts_with('#'));
+    lines.collect::<Vec<_>>().join("\n")
+}
+
+/// Every function that the header declares: what stands before a declaration's first parenthesis.
+fn declared() -> Names {
+    let code = bare(&text(HEADER));
+    let before = code.split(';').filter_map(|part| part.split_once('('));
+    let name = |(before, _): (&str, &str)| {
+        let mut words = before.split(|c: char| !(c.is_alphanumeric() || c == '_'));
+        words.rfind(|word| !word.is_empty()).map(str::to_string)
+    };
+    before.filter_map(name).collect()
+}
+
+/// The calls of the guarantee's lists: opening, and the constructors of HostCall.
+fn guaranteed() -> Names {
+    let text = text(CALLS);
+    let (_, body) = text
+        .split_once("\npub data HostCall ")
+        .unwrap_or_else(|| panic!("{CALLS}: no HostCall"));
+    let lines = body.lines().skip(1);
+    let constructors = lines
+        .take_while(|line| line.is_empty() || line.starts_with(' '))
+        .filter(|line| !line.trim_start().starts_with("--"))
+        .filter_map(|line| line.split_once(" : "))
+        .flat_map(|(names, _)| names.split_whitespace());
+    let calls = constructors.chain(["open"]);
+    calls.map(|call| format!("rowstore_{call}")).collect()
+}
+
+#[test]
+fn the_same_calls_everywhere() {
+    let sets = [
+        (ARCHIVE, exported()),
+        (HEADER, declared()),
+        (CALLS, guaranteed()),
+    ];
+    for (place, names) in &sets {
+        println!("interface: {} calls in {place}", names.len());
+    }
+    let all: Names = sets.iter().flat_map(|(_, names)| names.clone()).collect();
+    let mut missing = Vec::new();
+    for name in &all {
+        for (place, _) in sets.iter().filter(|(_, names)| !names.contains(name)) {
+            missing.push(format!("{name} is not in {place}"));
+        }
+    }
+    assert!(missing.is_empty(), "{}", missing.join("\n"));
+}
