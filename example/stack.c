@@ -11,9 +11,11 @@
 
 /* LIMIT is what rowstore.h promises; there is room to see it broken. */
 enum { LIMIT = 64 * 1024, STACK = 8 * LIMIT, KNOWN = 100000, PAINT = 0xa5 };
-enum { MOST_RECORDS = 518 + 3 * (ROWSTORE_MAX_PLACES - 1) };
+enum { MOST_RECORDS = ROWSTORE_RECORDS_SIZE(1, ROWSTORE_MAX_PLACES) };
 enum { MOST_PLACES = ROWSTORE_MAX_PLACES * ROWSTORE_MAX_WIDTH };
 enum { UNKNOWN = 99 };
+/* From docs/LAYOUT.md: where the nodes' states start, and a ghost's state. */
+enum { STATES = 6, NODES = 128, GHOST = 2 };
 
 enum call { OPEN, SNAPSHOT, READ, WRITE, DELETE, COUNT, FILL_KNOWN };
 
@@ -128,11 +130,10 @@ static void right_lengths(void) {
   row_len = width;
 }
 
-/* docs/LAYOUT.md has where the states of the 128 nodes are; 2 is a ghost. */
 static void counted(size_t used_due, size_t snapshots_due, size_t ghosts_due) {
   size_t ghosts = 0;
-  for (size_t n = 0; n < 128; n++) {
-    ghosts += records[6 + n] == 2;
+  for (size_t n = 0; n < NODES; n++) {
+    ghosts += records[STATES + n] == GHOST;
   }
   made(COUNT, ROWSTORE_OK);
   expect("places in use", used, used_due);

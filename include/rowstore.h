@@ -59,9 +59,12 @@ enum {
 /* The tag of the origin. */
 #define ROWSTORE_ORIGIN 0
 
+/* Where the table starts in the records; each of its entries takes 3 bytes. */
+#define ROWSTORE_TABLE_AT 518
+
 /* Bytes of the records, for measures within their limits. */
 #define ROWSTORE_RECORDS_SIZE(rows, places)                                    \
-  ((size_t)518 + 3 * ((size_t)(places) - (size_t)(rows)))
+  ((size_t)ROWSTORE_TABLE_AT + 3 * ((size_t)(places) - (size_t)(rows)))
 
 /* Bytes of the places, for measures within their limits. */
 #define ROWSTORE_PLACES_SIZE(width, places) ((size_t)(places) * (size_t)(width))

@@ -1,5 +1,6 @@
 //! A store of full copies: every living version holds the bytes and a mark of each of its rows.
 
+use crate::layout::Measures;
 use crate::store::answer::*;
 use std::collections::BTreeMap;
 
@@ -11,56 +12,33 @@ pub struct Version {
 }
 
 pub struct Copies {
-    pub rows: usize,
-    pub width: usize,
-    pub places: usize,
+    pub measures: Measures,
     versions: BTreeMap<u16, Version>,
     next_mark: usize,
 }
 
 impl Copies {
     /// Opens with zero bytes and a different mark for each of the origin's rows.
-    pub fn open(
-        records_len: usize,
-        places_len: usize,
-        rows: usize,
-        width: usize,
-        places: usize,
-    ) -> Result<Copies, u8> {
-        let measured = (1..=1024).contains(&rows)
-            && (1..=1024).contains(&width)
-            && (rows..=4096).contains(&places);
-        if !measured {
+    pub fn open(records_len: usize, places_len: usize, measures: Measures) -> Result<Copies, u8> {
+        if !measures.within_limits() {
             return Err(MEASURE);
         }
-        if records_len != 518 + 3 * (places - rows) || places_len != places * width {
+        if records_len != measures.records_len() || places_len != measures.places_len() {
             return Err(LENGTH);
         }
         let origin = Version {
-            bytes: vec![0; rows * width],
-            marks: (0..rows).collect(),
+            bytes: vec![0; measures.rows * measures.width],
+            marks: (0..measures.rows).collect(),
         };
-        Ok(Copies::of(
-            rows,
-            width,
-            places,
-            BTreeMap::from([(0, origin)]),
-        ))
+        Ok(Copies::of(measures, BTreeMap::from([(0, origin)])))
     }
 
     /// The copies that sound records from elsewhere start with: the marks are the places read.
-    pub fn of(
-        rows: usize,
-        width: usize,
-        places: usize,
-        versions: BTreeMap<u16, Version>,
-    ) -> Copies {
+    pub fn of(measures: Measures, versions: BTreeMap<u16, Version>) -> Copies {
         let highest = versions.values().flat_map(|v| v.marks.iter().copied());
         let next_mark = highest.max().map_or(0, |mark| mark + 1);
         Copies {
-            rows,
-            width,
-            places,
+            measures,
             versions,
             next_mark,
         }
@@ -98,12 +76,12 @@ impl Copies {
         if let Err(refusal) = self.row_refusal(places_len, tag, row, bytes.len()) {
             return refusal;
         }
-        if self.shared(tag, row) && self.places_in_use() == self.places {
+        if self.shared(tag, row) && self.places_in_use() == self.measures.places {
             return NO_PLACE;
         }
         let mark = self.next_mark;
         self.next_mark += 1;
-        let stretch = self.stretch(row);
+        let stretch = self.measures.stretch(row);
         let version = self.versions.get_mut(&tag).expect("a living version");
         version.bytes[stretch].copy_from_slice(bytes);
         version.marks[row] = mark;
@@ -142,7 +120,7 @@ impl Copies {
 
     /// The bytes of a living version's row.
     pub fn row(&self, tag: u16, row: usize) -> &[u8] {
-        &self.versions[&tag].bytes[self.stretch(row)]
+        &self.versions[&tag].bytes[self.measures.stretch(row)]
     }
 
     /// What read and write test alike: lengths, then the row, then the tag.
@@ -153,20 +131,16 @@ impl Copies {
         row: usize,
         row_len: usize,
     ) -> Result<(), u8> {
-        if places_len != self.places * self.width || row_len != self.width {
+        if places_len != self.measures.places_len() || row_len != self.measures.width {
             return Err(LENGTH);
         }
-        if row >= self.rows {
+        if row >= self.measures.rows {
             return Err(ROW);
         }
         if !self.versions.contains_key(&tag) {
             return Err(NO_VERSION);
         }
         Ok(())
-    }
-
-    fn stretch(&self, row: usize) -> std::ops::Range<usize> {
-        row * self.width..(row + 1) * self.width
     }
 
     fn snapshots(&self) -> usize {

@@ -1,10 +1,7 @@
 //! A slow and plain check of record bytes, rule by rule, and reading by going up.
 
+use crate::layout::*;
 use std::collections::HashSet;
-
-const EMPTY: u8 = 0;
-const ALIVE: u8 = 1;
-const GHOST: u8 = 2;
 
 struct Node {
     state: u8,
@@ -20,9 +17,7 @@ struct Entry {
 
 /// Record bytes taken apart; their length fits their own numbers.
 pub struct Records {
-    pub rows: usize,
-    pub width: usize,
-    pub places: usize,
+    pub measures: Measures,
     nodes: Vec<Node>,
     table: Vec<Entry>,
     /// For each row the nodes that have an exception there, and its place.
@@ -39,31 +34,25 @@ pub fn place_of(bytes: &[u8], tag: u16, row: usize) -> Option<usize> {
     Records::of(bytes)?.place_of(tag, row)
 }
 
-fn number(bytes: &[u8], at: usize) -> usize {
-    bytes[at] as usize * 256 + bytes[at + 1] as usize
-}
-
 impl Records {
     /// Takes the bytes apart; none if their length is not the one that their numbers give.
     pub fn of(bytes: &[u8]) -> Option<Records> {
-        if bytes.len() < 518 {
-            return None;
-        }
-        let (rows, places) = (number(bytes, 0), number(bytes, 4));
-        let entries = places.checked_sub(rows)?;
-        if bytes.len() != 518 + 3 * entries {
+        let measures = Measures::told_by(bytes)?;
+        let rows = measures.rows;
+        if rows > measures.places || bytes.len() != measures.records_len() {
             return None;
         }
         let node = |n: usize| Node {
-            state: bytes[6 + n],
-            parent: bytes[134 + n] as usize,
-            tag: number(bytes, 262 + 2 * n) as u16,
+            state: bytes[STATES + n],
+            parent: bytes[PARENTS + n] as usize,
+            tag: number(bytes, TAGS + 2 * n),
         };
-        let entry = |i: usize| Entry {
-            node: bytes[518 + i] as usize,
-            row: number(bytes, 518 + entries + 2 * i),
+        let entry = |(&node, &row): (&u8, &[u8; 2])| Entry {
+            node: node as usize,
+            row: u16::from_be_bytes(row) as usize,
         };
-        let table: Vec<Entry> = (0..entries).map(entry).collect();
+        let (entry_nodes, entry_rows) = table(bytes);
+        let table: Vec<Entry> = entry_nodes.iter().zip(entry_rows).map(entry).collect();
         let mut exceptions = vec![Vec::new(); rows];
         for (i, entry) in table.iter().enumerate() {
             if entry.node != 0 && entry.row < rows {
@@ -71,10 +60,8 @@ impl Records {
             }
         }
         Some(Records {
-            rows,
-            width: number(bytes, 2),
-            places,
-            nodes: (0..128).map(node).collect(),
+            measures,
+            nodes: (0..NODES).map(node).collect(),
             table,
             exceptions,
         })
@@ -94,7 +81,7 @@ impl Records {
     pub fn free_places(&self) -> Vec<usize> {
         let free = |&i: &usize| self.table[i].node == 0;
         let entries = (0..self.table.len()).filter(free);
-        entries.map(|i| self.rows + i).collect()
+        entries.map(|i| self.measures.rows + i).collect()
     }
 
     /// The living node that has the tag.
@@ -121,13 +108,13 @@ impl Records {
     }
 
     pub fn ghosts(&self) -> usize {
-        (0..128).filter(|&n| self.is_ghost(n)).count()
+        (0..NODES).filter(|&n| self.is_ghost(n)).count()
     }
 
     /// How many nodes in use other than node 0 have this parent.
     pub fn children(&self, node: usize) -> usize {
         let child = |&n: &usize| self.in_use(n) && self.nodes[n].parent == node;
-        (1..128).filter(child).count()
+        (1..NODES).filter(child).count()
     }
 
     /// How many nodes lie on the way from a node in use up to node 0.
@@ -136,11 +123,11 @@ impl Records {
     }
 
     fn in_use(&self, node: usize) -> bool {
-        node < 128 && self.nodes[node].state != EMPTY
+        node < NODES && self.nodes[node].state != EMPTY
     }
 
     fn living(&self) -> impl Iterator<Item = usize> + '_ {
-        (0..128).filter(|&n| self.nodes[n].state == ALIVE)
+        (0..NODES).filter(|&n| self.nodes[n].state == ALIVE)
     }
 
     /// The nodes from this one up to node 0; none if the way leaves the nodes in use or returns.
@@ -163,7 +150,7 @@ impl Records {
     fn place_from(&self, node: usize, row: usize) -> Option<usize> {
         let exceptions = self.exceptions.get(row)?;
         let mut at = node;
-        for _ in 0..128 {
+        for _ in 0..NODES {
             if at == 0 {
                 return Some(row);
             }
@@ -176,10 +163,8 @@ impl Records {
     }
 
     fn within_measures(&self) -> bool {
-        (1..=1024).contains(&self.rows)
-            && (1..=1024).contains(&self.width)
-            && (self.rows..=4096).contains(&self.places)
-            && self.table.len() == self.places - self.rows
+        let Measures { rows, places, .. } = self.measures;
+        self.measures.within_limits() && self.table.len() == places - rows
     }
 
     fn states_fit(&self) -> bool {
@@ -197,7 +182,7 @@ impl Records {
     }
 
     fn all_reach_the_origin(&self) -> bool {
-        let mut used = (1..128).filter(|&n| self.in_use(n));
+        let mut used = (1..NODES).filter(|&n| self.in_use(n));
         used.all(|n| self.in_use(self.nodes[n].parent) && self.way_up(n).is_some())
     }
 
@@ -211,14 +196,14 @@ impl Records {
     }
 
     fn children_fit(&self) -> bool {
-        let mut ghosts = (0..128).filter(|&n| self.is_ghost(n));
+        let mut ghosts = (0..NODES).filter(|&n| self.is_ghost(n));
         self.children(0) <= 1 && ghosts.all(|n| self.children(n) >= 2)
     }
 
     fn exceptions_fit(&self) -> bool {
         let fits = |entry: &Entry| match entry.node {
             0 => entry.row == 0,
-            node => self.in_use(node) && entry.row < self.rows,
+            node => self.in_use(node) && entry.row < self.measures.rows,
         };
         let same = |a: &Entry, b: &Entry| a.node != 0 && a.node == b.node && a.row == b.row;
         let alone = |i: usize| {
@@ -230,7 +215,7 @@ impl Records {
 
     fn exceptions_are_read(&self) -> bool {
         let read = |(i, entry): (usize, &Entry)| {
-            let here = Some(self.rows + i);
+            let here = Some(self.measures.rows + i);
             entry.node == 0 || self.living().any(|v| self.place_from(v, entry.row) == here)
         };
         self.table.iter().enumerate().all(read)

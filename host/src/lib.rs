@@ -1,8 +1,9 @@
-//! The host's side of the row store: its safe face, a plain opponent, a store of full copies, and
-//! a judge of records.
+//! The host's side of the row store: its safe face, the records' layout, a plain opponent, a store
+//! of full copies, and a judge of records.
 
 pub mod copies;
 pub mod dice;
 pub mod judge;
+pub mod layout;
 pub mod plain;
 pub mod store;

@@ -1,18 +1,8 @@
 //! The same calls in plain Rust, written for speed: the proved store's opponent in the benchmark.
 //! Records are judged where they lie, with one pass over the table and no heap.
 
+use crate::layout::*;
 use crate::store::{answer::*, Store};
-use std::ops::Range;
-
-const NODES: usize = 128;
-const STATES: usize = 6;
-const PARENTS: usize = STATES + NODES;
-const TAGS: usize = PARENTS + NODES;
-const TABLE: usize = TAGS + 2 * NODES;
-
-const EMPTY: u8 = 0;
-const ALIVE: u8 = 1;
-const GHOST: u8 = 2;
 
 const MAX_SNAPSHOTS: u32 = 64;
 /// A node that has no rank.
@@ -30,29 +20,16 @@ pub struct Plain;
 impl Store for Plain {
     const NAME: &'static str = "plain";
 
-    fn open(
-        records: &mut [u8],
-        places: &mut [u8],
-        rows: usize,
-        width: usize,
-        place_count: usize,
-    ) -> u8 {
-        let size = Size {
-            rows,
-            width,
-            places: place_count,
-        };
-        if !size.within_measures() {
+    fn open(records: &mut [u8], places: &mut [u8], measures: Measures) -> u8 {
+        if !measures.within_limits() {
             return MEASURE;
         }
-        if records.len() != size.records_len() || places.len() != size.places_len() {
+        if records.len() != measures.records_len() || places.len() != measures.places_len() {
             return LENGTH;
         }
         records.fill(0);
-        for (field, number) in [rows, width, place_count].into_iter().enumerate() {
-            put_number(records, 2 * field, number as u16);
-        }
-        records[STATES] = ALIVE;
+        measures.put(records);
+        put_node(records, 0, ALIVE, 0, 0);
         places.fill(0);
         ACCEPTED
     }
@@ -87,7 +64,7 @@ impl Store for Plain {
         match tree.seek(records, places.len(), out.len(), tag, row) {
             Err(refusal) => refusal,
             Ok(sought) => {
-                out.copy_from_slice(&places[sought.size.stretch(sought.place)]);
+                out.copy_from_slice(&places[sought.measures.stretch(sought.place)]);
                 ACCEPTED
             }
         }
@@ -99,16 +76,16 @@ impl Store for Plain {
             Err(refusal) => return refusal,
             Ok(sought) => sought,
         };
-        let size = sought.size;
+        let measures = sought.measures;
         let mut place = sought.place;
         if tree.others_read(sought.source, sought.version, sought.owners) {
             let Some(entry) = free_entry(records) else {
                 return NO_PLACE;
             };
-            let free = size.rows + entry;
+            let free = measures.rows + entry;
             let owner = if sought.version == 0 {
                 // The snapshots that share the origin's row keep its old bytes.
-                places.copy_within(size.stretch(place), free * size.width);
+                places.copy_within(measures.stretch(place), free * measures.width);
                 tree.origin_child().expect("a shared row's reader")
             } else {
                 place = free;
@@ -116,15 +93,15 @@ impl Store for Plain {
             };
             put_entry(records, entry, owner, row);
         }
-        places[size.stretch(place)].copy_from_slice(bytes);
+        places[measures.stretch(place)].copy_from_slice(bytes);
         ACCEPTED
     }
 
     fn delete(records: &mut [u8], tag: u16) -> u8 {
-        let Some(size) = Size::of(records) else {
+        let Some(measures) = fitting_measures(records) else {
             return UNSOUND;
         };
-        with_owners(size.rows, |owners| {
+        with_owners(measures.rows, |owners| {
             let mut tree = Tree::new();
             if !judge(&mut tree, records, owners) {
                 return UNSOUND;
@@ -146,58 +123,23 @@ impl Store for Plain {
         let mut tree = Tree::new();
         match survey(&mut tree, records, NO_ROW) {
             None => (UNSOUND, 0, 0),
-            Some((size, _)) => {
-                let used = size.rows + taken_entries(records);
+            Some((measures, _)) => {
+                let used = measures.rows + taken_entries(records);
                 (ACCEPTED, used, tree.snapshots as usize)
             }
         }
     }
 }
 
-#[derive(Clone, Copy)]
-struct Size {
-    rows: usize,
-    width: usize,
-    places: usize,
-}
-
-impl Size {
-    /// The size that the records tell, if it is within its measures and their length fits it.
-    fn of(records: &[u8]) -> Option<Size> {
-        if records.len() < TABLE {
-            return None;
-        }
-        let size = Size {
-            rows: number(records, 0),
-            width: number(records, 2),
-            places: number(records, 4),
-        };
-        (size.within_measures() && records.len() == size.records_len()).then_some(size)
-    }
-
-    fn within_measures(&self) -> bool {
-        (1..=1024).contains(&self.rows)
-            && (1..=1024).contains(&self.width)
-            && (self.rows..=4096).contains(&self.places)
-    }
-
-    fn records_len(&self) -> usize {
-        TABLE + 3 * (self.places - self.rows)
-    }
-
-    fn places_len(&self) -> usize {
-        self.places * self.width
-    }
-
-    /// The bytes of a place.
-    fn stretch(&self, place: usize) -> Range<usize> {
-        place * self.width..(place + 1) * self.width
-    }
+/// The measures that the records tell, if they are within their limits and the length fits them.
+fn fitting_measures(records: &[u8]) -> Option<Measures> {
+    let told = Measures::told_by(records)?;
+    (told.within_limits() && records.len() == told.records_len()).then_some(told)
 }
 
 /// A version's row, looked up in sound records; version and source are ranks.
 struct Sought {
-    size: Size,
+    measures: Measures,
     /// The ranks that have an entry for the row.
     owners: u128,
     version: usize,
@@ -214,18 +156,15 @@ struct Nodes<'a> {
 
 impl Nodes<'_> {
     fn of(records: &[u8]) -> Option<Nodes<'_>> {
-        let (states, rest) = records[STATES..].split_first_chunk()?;
-        let (parents, rest) = rest.split_first_chunk()?;
-        let tags = rest.first_chunk()?;
         Some(Nodes {
-            states,
-            parents,
-            tags,
+            states: records[STATES..].first_chunk()?,
+            parents: records[PARENTS..].first_chunk()?,
+            tags: records[TAGS..].first_chunk()?,
         })
     }
 
     fn tag(&self, node: usize) -> u16 {
-        u16::from_be_bytes([self.tags[2 * node], self.tags[2 * node + 1]])
+        number(self.tags, 2 * node)
     }
 
     /// The living and the ghost nodes, if every state is a state and no empty node has a parent.
@@ -290,13 +229,13 @@ struct Tree {
     snapshots: u32,
 }
 
-/// Judges the records; gives their size and the ranks that have an entry for the row.
-fn survey(tree: &mut Tree, records: &[u8], row: usize) -> Option<(Size, u128)> {
-    let size = Size::of(records)?;
-    with_owners(size.rows, |owners| {
+/// Judges the records; gives their measures and the ranks that have an entry for the row.
+fn survey(tree: &mut Tree, records: &[u8], row: usize) -> Option<(Measures, u128)> {
+    let measures = fitting_measures(records)?;
+    with_owners(measures.rows, |owners| {
         let sound = judge(tree, records, owners);
         let of_row = owners.get(row).map_or(0, |set| u128::from_le_bytes(*set));
-        sound.then_some((size, of_row))
+        sound.then_some((measures, of_row))
     })
 }
 
@@ -393,11 +332,11 @@ impl Tree {
         tag: u16,
         row: usize,
     ) -> Result<Sought, u8> {
-        let (size, owners) = survey(self, records, row).ok_or(UNSOUND)?;
-        if places_len != size.places_len() || row_len != size.width {
+        let (measures, owners) = survey(self, records, row).ok_or(UNSOUND)?;
+        if places_len != measures.places_len() || row_len != measures.width {
             return Err(LENGTH);
         }
-        if row >= size.rows {
+        if row >= measures.rows {
             return Err(ROW);
         }
         let node = node_of(records, tag).ok_or(NO_VERSION)?;
@@ -405,7 +344,7 @@ impl Tree {
         let source = self.source(version, owners);
         let place = self.place(records, source, row);
         Ok(Sought {
-            size,
+            measures,
             owners,
             version,
             source,
@@ -489,7 +428,7 @@ impl Tree {
             }
             entry += 1;
         }
-        number(records, 0) + entry
+        number(records, ROWS) as usize + entry
     }
 
     /// Whether a living version other than this one gets its row at or through the source.
@@ -513,7 +452,7 @@ impl Tree {
             return node;
         }
         let child = empty_node(records);
-        let tag = number(records, TAGS + 2 * node) as u16;
+        let tag = number(records, TAGS + 2 * node);
         put_node(records, child, ALIVE, node, tag);
         let parent = records[PARENTS + node] as usize;
         put_node(records, node, GHOST, parent, 0);
@@ -618,9 +557,7 @@ impl Parting {
         let lines = (!alone).then(|| Lines::of(tree));
         let living = tree.living() & !(1 << self.version);
         let touched = self.touched(tree);
-        let entries = (records.len() - TABLE) / 3;
-        let (nodes, rows) = records[TABLE..].split_at_mut(entries);
-        let (rows, _) = rows.as_chunks_mut();
+        let (nodes, rows) = table_mut(records);
         for (node, row) in nodes.iter_mut().zip(rows) {
             if !touched[*node as usize] {
                 continue;
@@ -686,18 +623,12 @@ fn find<T: Copy>(items: &[T], wanted: impl Fn(T) -> bool) -> Option<usize> {
     None
 }
 
-/// The table's two halves: the nodes and the rows.
-fn table(records: &[u8]) -> (&[u8], &[[u8; 2]]) {
-    let (nodes, rows) = records[TABLE..].split_at((records.len() - TABLE) / 3);
-    (nodes, rows.as_chunks().0)
-}
-
 /// The node that has a tag; in sound records only living nodes have tags above 0.
 fn node_of(records: &[u8], tag: u16) -> Option<usize> {
     if tag == 0 {
         return Some(0);
     }
-    let (tags, _) = records[TAGS..TABLE].as_chunks();
+    let (tags, _) = Nodes::of(records)?.tags.as_chunks();
     let wanted = tag.to_be_bytes();
     find(tags, |tag| tag == wanted)
 }
@@ -705,8 +636,9 @@ fn node_of(records: &[u8], tag: u16) -> Option<usize> {
 /// The first empty node. There is one whenever a node is made: the records are sound afterwards,
 /// and have at most two nodes for each of 64 snapshots.
 fn empty_node(records: &[u8]) -> usize {
-    let empty = find(&records[STATES..PARENTS], |state| state == EMPTY);
-    empty.expect("an empty node")
+    let empty = |nodes: Nodes| find(nodes.states, |state| state == EMPTY);
+    let found = Nodes::of(records).and_then(empty);
+    found.expect("an empty node")
 }
 
 /// The entries in use, counted in groups that a byte can count.
@@ -718,24 +650,4 @@ fn taken_entries(records: &[u8]) -> usize {
 
 fn free_entry(records: &[u8]) -> Option<usize> {
     find(table(records).0, |node| node == 0)
-}
-
-fn number(records: &[u8], at: usize) -> usize {
-    u16::from_be_bytes([records[at], records[at + 1]]) as usize
-}
-
-fn put_number(records: &mut [u8], at: usize, number: u16) {
-    records[at..at + 2].copy_from_slice(&number.to_be_bytes());
-}
-
-fn put_node(records: &mut [u8], node: usize, state: u8, parent: usize, tag: u16) {
-    records[STATES + node] = state;
-    records[PARENTS + node] = parent as u8;
-    put_number(records, TAGS + 2 * node, tag);
-}
-
-fn put_entry(records: &mut [u8], entry: usize, node: usize, row: usize) {
-    let entries = (records.len() - TABLE) / 3;
-    records[TABLE + entry] = node as u8;
-    put_number(records, TABLE + entries + 2 * entry, row as u16);
 }

@@ -1,5 +1,7 @@
 //! The six calls on lent bytes, and the proved store behind them.
 
+use crate::layout::Measures;
+
 /// Answer numbers; 0 is acceptance, every other one a refusal.
 pub mod answer {
     pub const ACCEPTED: u8 = 0;
@@ -29,13 +31,7 @@ pub mod answer {
 pub trait Store {
     const NAME: &'static str;
 
-    fn open(
-        records: &mut [u8],
-        places: &mut [u8],
-        rows: usize,
-        width: usize,
-        place_count: usize,
-    ) -> u8;
+    fn open(records: &mut [u8], places: &mut [u8], measures: Measures) -> u8;
 
     fn snapshot(records: &mut [u8], source: u16, tag: u16) -> u8;
 
@@ -55,7 +51,7 @@ pub struct Proved;
 
 #[cfg(feature = "linked")]
 mod linked {
-    use super::{Proved, Store};
+    use super::{Measures, Proved, Store};
 
     extern "C" {
         fn rowstore_open(
@@ -65,7 +61,7 @@ mod linked {
             places_len: usize,
             rows: usize,
             width: usize,
-            place_count: usize,
+            count: usize,
         ) -> u8;
         fn rowstore_snapshot(records: *mut u8, records_len: usize, source: u16, tag: u16) -> u8;
         fn rowstore_read(
@@ -101,16 +97,11 @@ mod linked {
     impl Store for Proved {
         const NAME: &'static str = "proved";
 
-        fn open(
-            records: &mut [u8],
-            places: &mut [u8],
-            rows: usize,
-            width: usize,
-            place_count: usize,
-        ) -> u8 {
+        fn open(records: &mut [u8], places: &mut [u8], measures: Measures) -> u8 {
             let (r, r_len) = (records.as_mut_ptr(), records.len());
             let (p, p_len) = (places.as_mut_ptr(), places.len());
-            unsafe { rowstore_open(r, r_len, p, p_len, rows, width, place_count) }
+            let (rows, width, count) = (measures.rows, measures.width, measures.places);
+            unsafe { rowstore_open(r, r_len, p, p_len, rows, width, count) }
         }
 
         fn snapshot(records: &mut [u8], source: u16, tag: u16) -> u8 {

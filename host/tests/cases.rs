@@ -4,17 +4,14 @@ mod common;
 
 use common::calls::{Call, Outcome};
 use common::tally::Tally;
-use common::trial::{Care, Measures, Trial};
+use common::trial::{Care, Trial};
 use rowstore_host::copies::Copies;
 use rowstore_host::dice::Dice;
 use rowstore_host::judge::place_of;
+use rowstore_host::layout::Measures;
 use rowstore_host::store::Store;
 
-const USUAL: Measures = Measures {
-    rows: 4,
-    width: 8,
-    places: 6,
-};
+const USUAL: Measures = Measures::of(4, 8, 6);
 
 for_each_store!(
     measures_of_an_opening,
@@ -27,18 +24,13 @@ for_each_store!(
 
 /// Opens on marked bytes of the given lengths; a refusal must leave all of them.
 fn opening<S: Store>(measures: Measures, records_len: usize, places_len: usize) -> u8 {
-    let Measures {
-        rows,
-        width,
-        places,
-    } = measures;
     let mut records = vec![0x77; records_len];
-    let mut row_bytes = vec![0x88; places_len];
-    let got = S::open(&mut records, &mut row_bytes, rows, width, places);
-    let wanted = Copies::open(records_len, places_len, rows, width, places).err();
+    let mut places = vec![0x88; places_len];
+    let got = S::open(&mut records, &mut places, measures);
+    let wanted = Copies::open(records_len, places_len, measures).err();
     assert_eq!(got, wanted.unwrap_or(0), "{}: {measures:?}", S::NAME);
     if got != 0 {
-        let untouched = records.iter().all(|&b| b == 0x77) && row_bytes.iter().all(|&b| b == 0x88);
+        let untouched = records.iter().all(|&b| b == 0x77) && places.iter().all(|&b| b == 0x88);
         assert!(untouched, "{}: {measures:?} refused, bytes lost", S::NAME);
     }
     got
@@ -71,11 +63,7 @@ fn measures_of_an_opening<S: Store>() {
         ((4, 65_544, 6), 1),
     ];
     for ((rows, width, places), wanted) in cases {
-        let measures = Measures {
-            rows,
-            width,
-            places,
-        };
+        let measures = Measures::of(rows, width, places);
         // Where the measures are out of bounds, lengths of some other store will do.
         let fits = if wanted == 0 { measures } else { USUAL };
         let got = opening::<S>(measures, fits.records_len(), fits.places_len());
@@ -131,16 +119,17 @@ fn listed_cases<S: Store>() {
         no_snapshot_places::<S>,
         sixty_four_snapshots::<S>,
     ];
-    let answers = [0, 3, 4, 21, 22, 23, 24];
-    run_cases(&format!("listed cases, {}", S::NAME), &cases, &answers);
+    let title = format!("listed cases, {}", S::NAME);
+    let tallies = cases.map(|case| case());
+    require_all(&title, &tallies, &[0, 3, 4, 21, 22, 23, 24]);
 }
 
-/// Runs the cases, and requires that all the answers were seen.
-fn run_cases(title: &str, cases: &[fn() -> Tally], answers: &[u8]) {
-    let mut tally = Tally::default();
-    cases.iter().for_each(|case| tally.add(&case()));
-    tally.print(title);
-    tally.require(title, answers);
+/// Prints the tallies together, and requires that all the answers were seen.
+fn require_all(title: &str, tallies: &[Tally], answers: &[u8]) {
+    let mut sum = Tally::default();
+    tallies.iter().for_each(|tally| sum.add(tally));
+    sum.print(title);
+    sum.require(title, answers);
 }
 
 fn rows_after_opening<S: Store>() -> Tally {
@@ -238,101 +227,73 @@ fn printed_example<S: Store>() {
 }
 
 /// Histories in which a step of the 2009 paper, taken as printed (SPEC 11.3), loses a row or keeps a dead one.
+/// Each has its title and its steps, which `played` reads.
+const STEPS_THAT_GO_WRONG: [[&str; 2]; 6] = [
+    // Every version below a ghost writes its own row; the ghost's goes.
+    [
+        "ghost's row without readers",
+        "0>1 1.0=1 1>2 1>3 -1 2.0=2 6/2 3.0=3 6/2",
+    ],
+    // A version with two children that have their own rows parts: its row and its ghost's go.
+    [
+        "rows above a new ghost",
+        "0>1 1.0=1 1.1=1 1>2 1>3 3.0=3 3.1=3 2.0=2 2>4 2>5 4.0=4 5.0=5 4.1=4 5.1=5 -1 -2 10/3",
+    ],
+    // A version reads its own row before any above it.
+    ["own row first", "0>1 1.0=1 1>2 2.0=2 2.0?2 1.0?1"],
+    // A version parts whose one child has its own row; another row is passed on.
+    [
+        "entry under a child with its own",
+        "0>1 1.0=1 1.1=1 1>2 2.0=2 -1 6/1 2.1?1",
+    ],
+    // The origin's row is saved for nobody if all snapshots have their own.
+    [
+        "origin's row that no snapshot reads",
+        "0>1 1>2 1>3 2.0=2 3.0=3 -1 0.0=9 6/2",
+    ],
+    // One version alone still reads a ghost's row, and writes it in its place; then it parts.
+    [
+        "row read through a ghost alone",
+        "0>1 1.0=1 1>2 1>3 1>4 -1 2.0=2 3.0=3 4.0=4 7/3 -4 6/2",
+    ],
+];
+
 fn steps_that_go_wrong<S: Store>() {
-    let cases: [fn() -> Tally; 6] = [
-        ghost_row_without_readers::<S>,
-        rows_above_a_new_ghost::<S>,
-        own_row_first::<S>,
-        entry_under_a_child_with_its_own::<S>,
-        origin_row_that_no_snapshot_reads::<S>,
-        row_read_through_a_ghost_alone::<S>,
-    ];
+    let tallies = STEPS_THAT_GO_WRONG.map(|[title, steps]| played::<S>(title, steps));
     let title = format!("steps that go wrong, {}", S::NAME);
-    run_cases(&title, &cases, &[0]);
+    require_all(&title, &tallies, &[0]);
 }
 
-fn roomy<S: Store>(title: &str) -> Trial<S> {
+/// Makes the steps, all accepted: `0>1` a snapshot of 0 as 1, `1.2=3` a write of threes to row 2 of 1, `1.2?3` a
+/// read that finds them, `-1` a delete; `5/1` says that 5 places are in use and 1 snapshot is alive.
+fn played<S: Store>(title: &str, steps: &str) -> Tally {
     let measures = Measures {
         places: 20,
         ..USUAL
     };
-    Trial::open(title, measures, Care::Whole)
-}
-
-fn accepted(answers: &[u8]) {
-    assert!(answers.iter().all(|&answer| answer == 0), "{answers:?}");
-}
-
-/// Every version below a ghost writes its own row; the ghost's goes.
-fn ghost_row_without_readers<S: Store>() -> Tally {
-    let mut trial = roomy::<S>("ghost's row without readers");
-    accepted(&[trial.snapshot(0, 1), trial.write(1, 0, 1)]);
-    accepted(&[trial.snapshot(1, 2), trial.snapshot(1, 3)]);
-    accepted(&[trial.delete(1), trial.write(2, 0, 2)]);
-    assert_eq!(trial.copies.count(), (6, 2));
-    accepted(&[trial.write(3, 0, 3)]);
-    assert_eq!(trial.copies.count(), (6, 2));
-    trial.tally
-}
-
-/// A version with two children that have their own rows parts: its row and its ghost's go.
-fn rows_above_a_new_ghost<S: Store>() -> Tally {
-    let mut trial = roomy::<S>("rows above a new ghost");
-    accepted(&[trial.snapshot(0, 1), trial.write(1, 0, 1)]);
-    accepted(&[trial.write(1, 1, 1), trial.snapshot(1, 2)]);
-    accepted(&[trial.snapshot(1, 3), trial.write(3, 0, 3)]);
-    accepted(&[trial.write(3, 1, 3), trial.write(2, 0, 2)]);
-    accepted(&[trial.snapshot(2, 4), trial.snapshot(2, 5)]);
-    accepted(&[trial.write(4, 0, 4), trial.write(5, 0, 5)]);
-    accepted(&[trial.write(4, 1, 4), trial.write(5, 1, 5)]);
-    accepted(&[trial.delete(1), trial.delete(2)]);
-    assert_eq!(trial.copies.count(), (10, 3));
-    trial.tally
-}
-
-/// A version reads its own row before any above it.
-fn own_row_first<S: Store>() -> Tally {
-    let mut trial = roomy::<S>("own row first");
-    accepted(&[trial.snapshot(0, 1), trial.write(1, 0, 1)]);
-    accepted(&[trial.snapshot(1, 2), trial.write(2, 0, 2)]);
-    accepted(&[trial.read(2, 0), trial.read(1, 0)]);
-    assert_eq!(trial.copies.row(2, 0), [2; 8]);
-    trial.tally
-}
-
-/// A version parts whose one child has its own row; another row is passed on.
-fn entry_under_a_child_with_its_own<S: Store>() -> Tally {
-    let mut trial = roomy::<S>("entry under a child with its own");
-    accepted(&[trial.snapshot(0, 1), trial.write(1, 0, 1)]);
-    accepted(&[trial.write(1, 1, 1), trial.snapshot(1, 2)]);
-    accepted(&[trial.write(2, 0, 2), trial.delete(1)]);
-    assert_eq!(trial.copies.count(), (6, 1));
-    assert_eq!(trial.copies.row(2, 1), [1; 8]);
-    trial.tally
-}
-
-/// The origin's row is saved for nobody if all snapshots have their own.
-fn origin_row_that_no_snapshot_reads<S: Store>() -> Tally {
-    let mut trial = roomy::<S>("origin's row that no snapshot reads");
-    accepted(&[trial.snapshot(0, 1), trial.snapshot(1, 2)]);
-    accepted(&[trial.snapshot(1, 3), trial.write(2, 0, 2)]);
-    accepted(&[trial.write(3, 0, 3), trial.delete(1)]);
-    accepted(&[trial.write(0, 0, 9)]);
-    assert_eq!(trial.copies.count(), (6, 2));
-    trial.tally
-}
-
-/// One version alone still reads a ghost's row, and writes it in its place; then it parts.
-fn row_read_through_a_ghost_alone<S: Store>() -> Tally {
-    let mut trial = roomy::<S>("row read through a ghost alone");
-    accepted(&[trial.snapshot(0, 1), trial.write(1, 0, 1)]);
-    accepted(&[trial.snapshot(1, 2), trial.snapshot(1, 3)]);
-    accepted(&[trial.snapshot(1, 4), trial.delete(1)]);
-    accepted(&[trial.write(2, 0, 2), trial.write(3, 0, 3)]);
-    accepted(&[trial.write(4, 0, 4)]);
-    assert_eq!(trial.copies.count(), (7, 3));
-    accepted(&[trial.delete(4)]);
-    assert_eq!(trial.copies.count(), (6, 2));
+    let mut trial = Trial::<S>::open(title, measures, Care::Whole);
+    for step in steps.split(' ') {
+        let at = format!("{}: {title}: {step} in {steps}", S::NAME);
+        let numbers = step.split(|sign: char| !sign.is_ascii_digit());
+        let numbers: Vec<u16> = numbers.filter_map(|digits| digits.parse().ok()).collect();
+        let signs = step.replace(|sign: char| sign.is_ascii_digit(), "");
+        let answer = match (signs.as_str(), &numbers[..]) {
+            (">", &[source, tag]) => trial.snapshot(source, tag),
+            (".=", &[tag, row, byte]) => trial.write(tag, row.into(), byte as u8),
+            (".?", &[tag, row, byte]) => {
+                assert_eq!(trial.copies.row(tag, row.into()), [byte as u8; 8], "{at}");
+                trial.read(tag, row.into())
+            }
+            ("-", &[tag]) => trial.delete(tag),
+            ("/", &[used, snapshots]) => {
+                let counts = (used.into(), snapshots.into());
+                assert_eq!(trial.copies.count(), counts, "{at}");
+                0
+            }
+            _ => panic!("{at}: no step"),
+        };
+        assert_eq!(answer, 0, "{at}");
+    }
     trial.tally
 }
 
@@ -373,11 +334,7 @@ impl Lent {
 
 /// Records, places and a row at every remainder by 8, at the usual measures and at odd ones.
 fn any_address<S: Store>() {
-    let odd = Measures {
-        rows: 33,
-        width: 37,
-        places: 101,
-    };
+    let odd = Measures::of(33, 37, 101);
     let mut calls = 0;
     for measures in [USUAL, odd] {
         for records_at in 0..8 {
@@ -398,16 +355,10 @@ fn any_address<S: Store>() {
 fn history_at<S: Store>(measures: Measures, mut buffers: [Lent; 3]) -> usize {
     let [records, places, _] = &mut buffers;
     let Measures { rows, width, .. } = measures;
-    let (records_len, places_len) = (measures.records_len(), measures.places_len());
-    let opened = S::open(
-        records.bytes(),
-        places.bytes(),
-        rows,
-        width,
-        measures.places,
-    );
+    let places_len = measures.places_len();
+    let opened = S::open(records.bytes(), places.bytes(), measures);
     assert_eq!(opened, 0, "{}: {measures:?}", S::NAME);
-    let mut copies = Copies::open(records_len, places_len, rows, width, measures.places)
+    let mut copies = Copies::open(measures.records_len(), places_len, measures)
         .expect("copies open as the store does");
     let mut dice = Dice::new(17);
     let mut write = |tag, row| Call::Write {

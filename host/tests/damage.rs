@@ -2,21 +2,21 @@
 
 mod common;
 
-use common::calls::{Call, Habit, Outcome, Source};
-use common::trial::{adopted, Care, Measures, Trial};
+use common::calls::{Call, Habit, Outcome};
+use common::trial::{adopted, Care, Trial};
 use rowstore_host::dice::Dice;
 use rowstore_host::judge::{sound, Records};
+use rowstore_host::layout::*;
 use rowstore_host::store::Store;
 use std::marker::PhantomData;
 
-const HEAD: usize = 518;
+const LAST_NODE: u8 = NODES as u8 - 1;
 
 const GROWING: Habit = Habit {
     name: "growing",
     weights: [25, 0, 60, 12, 0],
-    source: Source::Any,
     highest_tag: 12,
-    calls: 120,
+    ..Habit::MIXED
 };
 
 for_each_store!(
@@ -101,11 +101,6 @@ impl Sample {
 }
 
 fn samples<S: Store>() -> Vec<Sample> {
-    let sized = |rows, width, places| Measures {
-        rows,
-        width,
-        places,
-    };
     let many = Habit {
         weights: [60, 0, 30, 2, 0],
         highest_tag: 120,
@@ -120,11 +115,11 @@ fn samples<S: Store>() -> Vec<Sample> {
         ..GROWING
     };
     vec![
-        Sample::grown::<S>("full", sized(4, 2, 14), &GROWING, ghosts_and_full),
-        Sample::grown::<S>("free", sized(3, 1, 24), &GROWING, ghosts_and_free),
-        Sample::grown::<S>("wide", sized(9, 4, 49), &GROWING, ghosts_and_full),
-        Sample::grown::<S>("many", sized(2, 3, 60), &many, all_alive),
-        Sample::grown::<S>("fresh", sized(1, 1, 1), &untouched, |_| true),
+        Sample::grown::<S>("full", Measures::of(4, 2, 14), &GROWING, ghosts_and_full),
+        Sample::grown::<S>("free", Measures::of(3, 1, 24), &GROWING, ghosts_and_free),
+        Sample::grown::<S>("wide", Measures::of(9, 4, 49), &GROWING, ghosts_and_full),
+        Sample::grown::<S>("many", Measures::of(2, 3, 60), &many, all_alive),
+        Sample::grown::<S>("fresh", Measures::of(1, 1, 1), &untouched, |_| true),
     ]
 }
 
@@ -157,7 +152,7 @@ impl<S: Store> Findings<S> {
         let is_sound = sound(records);
         self.sound += is_sound as usize;
         let parsed = is_sound.then(|| Records::of(records)).flatten();
-        let fitting = parsed.filter(|p| p.places * p.width == sample.places.len());
+        let fitting = parsed.filter(|p| p.measures.places_len() == sample.places.len());
         for call in [sample.calls(false), sample.calls(true)].as_flattened() {
             let title = format_args!("{}, {}, {what}", self.title, sample.title);
             let got = try_call::<S>(title, call, records, sample, is_sound);
@@ -219,10 +214,9 @@ fn every_byte<S: Store>() {
         let mut records = sample.records.clone();
         for at in 0..records.len() {
             let old = records[at];
-            let some = [0, 1, 2, 3, 4, 64, 127, 128, 255, old ^ 1, old ^ 2, old ^ 64];
-            let mut values = some.to_vec();
-            values.push(dice.byte());
-            if number == 0 && at < HEAD {
+            let mut values = vec![0, 1, 2, 3, 4, 64, LAST_NODE, LAST_NODE + 1, 255];
+            values.extend([old ^ 1, old ^ 2, old ^ 64, dice.byte()]);
+            if number == 0 && at < TABLE {
                 values = (0..=255).collect();
             }
             for value in values {
@@ -240,7 +234,7 @@ fn likely_byte(dice: &mut Dice, records: &[u8]) -> u8 {
     match dice.below(4) {
         0 => dice.below(6) as u8,
         1 => dice.pick(records),
-        2 => dice.below(130) as u8,
+        2 => dice.below(NODES + 2) as u8,
         _ => dice.byte(),
     }
 }
@@ -249,10 +243,10 @@ fn likely_byte(dice: &mut Dice, records: &[u8]) -> u8 {
 fn likely_position(dice: &mut Dice, len: usize) -> usize {
     let node = dice.below(24);
     match dice.below(5) {
-        0 => 6 + node,
-        1 => 134 + node,
-        2 => 262 + 2 * node + 1,
-        3 if len > HEAD => dice.between(HEAD, len - 1),
+        0 => STATES + node,
+        1 => PARENTS + node,
+        2 => TAGS + 2 * node + 1,
+        3 if len > TABLE => dice.between(TABLE, len - 1),
         _ => dice.below(len),
     }
 }
@@ -283,11 +277,7 @@ fn pairs_of_bytes<S: Store>() {
     for (seed, sample) in samples::<S>().iter().enumerate() {
         try_pairs(&mut findings, sample, 12_000, seed as u64);
     }
-    let measures = Measures {
-        rows: 1024,
-        width: 1,
-        places: 4096,
-    };
+    let measures = Measures::of(1024, 1, 4096);
     let filling = Habit {
         weights: [3, 0, 96, 0, 0],
         highest_tag: 60,
@@ -305,10 +295,10 @@ fn drawn_bytes<S: Store>() {
     let mut findings = Findings::<S>::new("drawn bytes");
     let mut dice = Dice::new(5);
     let samples = samples::<S>();
-    for number in 0..4000 {
+    for number in 0..6000 {
         let sample = &samples[number % samples.len()];
         let len = sample.records.len();
-        let kept = dice.pick(&[0, 6, 134, 262, HEAD, len]);
+        let kept = dice.pick(&[&PARTS.map(|(_, start)| start)[..], &[len]].concat());
         let mut records = dice.bytes(len);
         records[..kept].copy_from_slice(&sample.records[..kept]);
         findings.try_records(format_args!("seed 5, draw {number}"), &records, sample);
@@ -316,13 +306,14 @@ fn drawn_bytes<S: Store>() {
     findings.end();
 }
 
-/// Every length up to 530, and lengths around the right one, cut and extended.
+/// Every length up to that with four entries, and lengths around the right one, cut and extended.
 fn wrong_lengths<S: Store>() {
     let mut findings = Findings::<S>::new("wrong lengths");
+    let low = Measures::of(1, 1, 5).records_len();
     for sample in &samples::<S>() {
         let right = sample.records.len();
         let around = right.saturating_sub(9)..=right + 9;
-        for len in (0..=530).chain(around).chain([2 * right, 65_536]) {
+        for len in (0..=low).chain(around).chain([2 * right, 65_536]) {
             for filler in [0, 1] {
                 let mut records = sample.records.clone();
                 records.resize(len, filler);
@@ -361,7 +352,7 @@ fn drawn_trees<S: Store>() {
 /// Node numbers for a tree: the first ones, or any.
 fn drawn_nodes(dice: &mut Dice) -> Vec<u8> {
     let count = dice.below(10);
-    let mut nodes: Vec<u8> = (1..=if dice.chance(70) { 10 } else { 127 }).collect();
+    let mut nodes: Vec<u8> = (1..=if dice.chance(70) { 10 } else { LAST_NODE }).collect();
     for i in 0..count {
         let other = dice.between(i, nodes.len() - 1);
         nodes.swap(i, other);
@@ -372,24 +363,22 @@ fn drawn_nodes(dice: &mut Dice) -> Vec<u8> {
 
 /// Records with node 0 alone and a free table, and places with drawn bytes.
 fn blank(dice: &mut Dice, rows: usize, entries: usize) -> Sample {
-    let width = 2;
-    let mut records = vec![0; HEAD + 3 * entries];
-    (records[1], records[3], records[5]) = (rows as u8, width as u8, (rows + entries) as u8);
-    records[6] = 1;
+    let measures = Measures::of(rows, 2, rows + entries);
+    let mut records = vec![0; measures.records_len()];
+    measures.put(&mut records);
+    put_node(&mut records, 0, ALIVE, 0, 0);
     Sample {
         title: "tree".to_string(),
-        width,
+        width: measures.width,
         records,
-        places: dice.bytes((rows + entries) * width),
+        places: dice.bytes(measures.places_len()),
         tag: 1,
     }
 }
 
-fn put_node(records: &mut [u8], node: u8, ghost: bool, parent: u8, tag: u8) {
-    let node = node as usize;
-    records[6 + node] = 1 + ghost as u8;
-    records[134 + node] = parent;
-    records[262 + 2 * node + 1] = if ghost { 0 } else { tag };
+fn put_version(records: &mut [u8], node: u8, ghost: bool, parent: u8, tag: u8) {
+    let (state, tag) = if ghost { (GHOST, 0) } else { (ALIVE, tag) };
+    put_node(records, node.into(), state, parent.into(), tag.into());
 }
 
 /// A tree with now and then a wrong parent, ghost, tag or row.
@@ -413,13 +402,13 @@ fn drawn_tree(dice: &mut Dice) -> Sample {
         } else {
             dice.below(4)
         };
-        put_node(records, node, ghost, parents[i], tag as u8);
+        put_version(records, node, ghost, parents[i], tag as u8);
     }
     for entry in 0..entries {
         if !nodes.is_empty() && dice.chance(75) {
-            records[HEAD + entry] = dice.pick(&nodes);
+            let node = dice.pick(&nodes);
             let highest = if dice.chance(97) { rows - 1 } else { rows };
-            records[HEAD + entries + 2 * entry + 1] = dice.between(0, highest) as u8;
+            put_entry(records, entry, node.into(), dice.between(0, highest));
         }
     }
     sample
@@ -429,18 +418,18 @@ fn drawn_tree(dice: &mut Dice) -> Sample {
 fn most_nodes<S: Store>() {
     let mut findings = Findings::<S>::new("most nodes");
     let mut dice = Dice::new(3);
-    for count in [0, 1, 63, 64, 65, 127] {
+    for count in [0, 1, 63, 64, 65, LAST_NODE] {
         let mut sample = blank(&mut dice, 2, 40);
         for node in 1..=count {
-            put_node(&mut sample.records, node, false, node - 1, node);
+            put_version(&mut sample.records, node, false, node - 1, node);
         }
         let what = format_args!("a chain of {count}");
         let is_sound = findings.try_records(what, &sample.records, &sample);
         assert_eq!(is_sound, count <= 64, "{what}");
     }
     let mut sample = blank(&mut dice, 2, 40);
-    for node in 1..=127 {
-        put_node(&mut sample.records, node, node < 64, node / 2, node);
+    for node in 1..=LAST_NODE {
+        put_version(&mut sample.records, node, node < 64, node / 2, node);
     }
     let what = format_args!("all nodes in use");
     assert!(findings.try_records(what, &sample.records, &sample));

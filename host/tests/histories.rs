@@ -4,8 +4,9 @@ mod common;
 
 use common::calls::{Habit, Source};
 use common::tally::Tally;
-use common::trial::{Care, Measures, Trial};
+use common::trial::{Care, Trial};
 use rowstore_host::dice::Dice;
+use rowstore_host::layout::Measures;
 use rowstore_host::store::Store;
 
 const SMALL_SEEDS: u64 = 1200;
@@ -13,40 +14,33 @@ const SMALL_SEEDS: u64 = 1200;
 const STRIDE: usize = 1;
 
 const HABITS: [Habit; 5] = [
-    Habit {
-        name: "mixed",
-        weights: [20, 15, 40, 15, 10],
-        source: Source::Any,
-        highest_tag: 9,
-        calls: 120,
-    },
+    Habit::MIXED,
     Habit {
         name: "deep",
         weights: [30, 5, 40, 15, 5],
         source: Source::Latest,
         highest_tag: 14,
-        calls: 120,
+        ..Habit::MIXED
     },
     Habit {
         name: "wide",
         weights: [30, 5, 40, 20, 5],
         source: Source::Origin,
         highest_tag: 12,
-        calls: 120,
+        ..Habit::MIXED
     },
     Habit {
         name: "pruned",
         weights: [25, 3, 40, 30, 2],
-        source: Source::Any,
         highest_tag: 7,
         calls: 150,
+        ..Habit::MIXED
     },
     Habit {
         name: "written",
         weights: [10, 5, 75, 5, 5],
-        source: Source::Any,
         highest_tag: 6,
-        calls: 120,
+        ..Habit::MIXED
     },
 ];
 
@@ -54,9 +48,9 @@ const HABITS: [Habit; 5] = [
 const MANY: Habit = Habit {
     name: "many",
     weights: [60, 5, 27, 3, 5],
-    source: Source::Any,
     highest_tag: 99,
     calls: 220,
+    ..Habit::MIXED
 };
 
 /// What deletes must have met; when ghosts are made is the store's choice, so large histories, which
@@ -85,11 +79,9 @@ fn small_stores<S: Store>() {
             number => HABITS[number as usize % HABITS.len()],
         };
         let rows = dice.between(1, 4);
-        let measures = Measures {
-            rows,
-            width: dice.pick(&[1, 2, 8]),
-            places: rows + dice.pick(&[0, 1, 2, 3, 4, 6, 8, 12, 20]),
-        };
+        let width = dice.pick(&[1, 2, 8]);
+        let places = rows + dice.pick(&[0, 1, 2, 3, 4, 6, 8, 12, 20]);
+        let measures = Measures::of(rows, width, places);
         let title = format!("seed {seed}, {}, {measures:?}", habit.name);
         let mut trial = Trial::<S>::open(&title, measures, Care::Whole);
         trial.draw(&mut dice, &habit);
@@ -117,15 +109,10 @@ fn large_stores<S: Store>() {
     ];
     let mut tally = Tally::default();
     for (seed, (rows, width, places, calls)) in stores.into_iter().enumerate() {
-        let measures = Measures {
-            rows,
-            width,
-            places,
-        };
+        let measures = Measures::of(rows, width, places);
         let mut dice = Dice::new(seed as u64);
         let habit = Habit {
             weights: [14, 3, 78, 3, 2],
-            highest_tag: 99,
             calls,
             ..MANY
         };
@@ -148,11 +135,7 @@ fn large_stores<S: Store>() {
 
 /// Chains of 64 snapshots, each of the one before, taken down in three orders.
 fn deep_chains<S: Store>() {
-    let measures = Measures {
-        rows: 2,
-        width: 4,
-        places: 140,
-    };
+    let measures = Measures::of(2, 4, 140);
     let mut tally = Tally::default();
     for order in ["from the top", "from the bottom", "drawn"] {
         let title = format!("seed 7, chain, {order}");

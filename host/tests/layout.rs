@@ -1,11 +1,17 @@
-//! The layout document against the proved store: its example byte by byte, and its table of sizes.
+//! The layout document against the proved store and the host's constants: its offsets, its example byte by byte, and its
+//! table of sizes.
 
 #![cfg(feature = "linked")]
 
+use rowstore_host::layout::*;
 use rowstore_host::store::answer::{ACCEPTED, LENGTH};
 use rowstore_host::store::{Proved, Store};
 
 const DOCUMENT: &str = include_str!("../../docs/LAYOUT.md");
+const HEADER: &str = include_str!("../../include/rowstore.h");
+
+/// The measures of the document's example.
+const EXAMPLE: Measures = Measures::of(4, 8, 6);
 
 /// The lines of the document's only block of bytes.
 fn listing() -> Vec<&'static str> {
@@ -58,30 +64,61 @@ fn example() -> (Vec<u8>, Vec<u8>) {
     )
 }
 
+/// The cells of a section's first table, line by line, without its heading.
+fn cells(heading: &str) -> Vec<Vec<&'static str>> {
+    let (_, section) = DOCUMENT.split_once(heading).expect("the section");
+    let lines = section.lines().skip_while(|line| !line.starts_with('|'));
+    let lines = lines.take_while(|line| line.starts_with('|')).skip(2);
+    lines
+        .map(|line| line.trim_matches('|').split('|').map(str::trim).collect())
+        .collect()
+}
+
 /// L, B, P, the bytes of records and the bytes of places, from each line of the table of sizes.
 fn sizes() -> Vec<[usize; 5]> {
-    let (_, section) = DOCUMENT.split_once("\n## Sizes\n").expect("sizes");
-    let (section, _) = section.split_once("\n## ").expect("a section after it");
-    let lines = section.lines().filter(|line| line.starts_with('|')).skip(2);
-    lines
-        .map(|line| {
-            let cells = line.trim_matches('|').split('|').map(str::trim);
-            let numbers: Vec<usize> = cells.map(|n| n.parse().expect("a number")).collect();
-            numbers.try_into().expect("five numbers")
-        })
-        .collect()
+    let number = |cell: &&str| cell.parse().expect("a number");
+    let numbers = |cells: Vec<&str>| cells.iter().map(number).collect::<Vec<usize>>();
+    let five = |cells| numbers(cells).try_into().expect("five numbers");
+    cells("\n## Sizes\n").into_iter().map(five).collect()
+}
+
+#[test]
+fn offsets_of_parts() {
+    let mut listed = Vec::new();
+    for line in cells("# The records as bytes\n") {
+        let start = line[0].split(' ').next().and_then(|at| at.parse().ok());
+        let word = line[2].split([' ', ',']).next();
+        listed.push((word.expect("a part"), start.expect("an offset")));
+    }
+    // The table has a line for each half.
+    listed.dedup();
+    assert_eq!(listed, PARTS);
+    let define = format!("\n#define ROWSTORE_TABLE_AT {TABLE}\n");
+    assert!(HEADER.contains(&define), "not in the header: {define}");
+}
+
+#[test]
+fn example_from_constants() {
+    let mut records = vec![0; EXAMPLE.records_len()];
+    EXAMPLE.put(&mut records);
+    put_node(&mut records, 0, ALIVE, 0, 0);
+    put_node(&mut records, 1, ALIVE, 0, 7);
+    put_entry(&mut records, 0, 1, 2);
+    assert_eq!(records, example().0);
+    assert_eq!(Measures::told_by(&records), Some(EXAMPLE));
+    assert_eq!(table(&records), (&[1, 0][..], &[[0, 2], [0, 0]][..]));
 }
 
 #[test]
 fn example_in_full() {
     let (wanted_records, wanted_places) = example();
-    assert_eq!(wanted_records.len(), 518 + 3 * (6 - 4));
-    assert_eq!(wanted_places.len(), 6 * 8);
+    assert_eq!(wanted_records.len(), EXAMPLE.records_len());
+    assert_eq!(wanted_places.len(), EXAMPLE.places_len());
 
     // Whatever was in the buffers is gone after the opening.
     let mut records = vec![0xff; wanted_records.len()];
     let mut places = vec![0xff; wanted_places.len()];
-    let opened = Proved::open(&mut records, &mut places, 4, 8, 6);
+    let opened = Proved::open(&mut records, &mut places, EXAMPLE);
     let first = Proved::write(&mut records, &mut places, 0, 2, &[0xa1; 8]);
     let taken = Proved::snapshot(&mut records, 0, 7);
     let second = Proved::write(&mut records, &mut places, 0, 2, &[0xb2; 8]);
@@ -96,12 +133,15 @@ fn sizes_of_stores() {
     let sizes = sizes();
     assert_eq!(sizes.len(), 6);
     for [rows, width, count, records_len, places_len] in sizes {
+        let measures = Measures::of(rows, width, count);
         let open = |records_len: usize, places_len: usize| {
             let mut records = vec![0xff; records_len];
             let mut places = vec![0xff; places_len];
-            Proved::open(&mut records, &mut places, rows, width, count)
+            Proved::open(&mut records, &mut places, measures)
         };
         let case = format!("L = {rows}, B = {width}, P = {count}");
+        assert_eq!(measures.records_len(), records_len, "{case}");
+        assert_eq!(measures.places_len(), places_len, "{case}");
         assert_eq!(open(records_len, places_len), ACCEPTED, "{case}");
         assert_eq!(open(records_len - 1, places_len), LENGTH, "{case}");
         assert_eq!(open(records_len + 1, places_len), LENGTH, "{case}");

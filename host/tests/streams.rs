@@ -3,16 +3,15 @@
 
 use rowstore_host::copies::Copies;
 use rowstore_host::dice::Dice;
+use rowstore_host::layout::Measures;
 use std::collections::BTreeMap;
 use std::io::Write;
 use std::path::PathBuf;
 use std::process::{Command, Stdio};
 
-const ROWS: usize = 4;
-const WIDTH: usize = 8;
-const PLACES: usize = 6;
-const PLACES_LEN: usize = PLACES * WIDTH;
-const RECORDS_LEN: usize = 518 + 3 * (PLACES - ROWS);
+/// The program's store.
+const SHELF: Measures = Measures::of(4, 8, 6);
+const PLACES_LEN: usize = SHELF.places_len();
 
 /// What the program prints for a stream.
 fn printed(stream: &[u8]) -> Vec<u8> {
@@ -42,7 +41,7 @@ impl<'a> Reader<'a> {
         let (&kind, behind) = self.rest.split_first()?;
         let operands = match kind {
             1 | 2 => 4,
-            3 => 4 + WIDTH,
+            3 => 4 + SHELF.width,
             4 => 2,
             5 => 0,
             _ => return Some(Err(6)),
@@ -74,7 +73,7 @@ fn answered(copies: &mut Copies, kind: u8, operands: &[u8]) -> (u8, String) {
         ),
         2 => {
             let row = usize::from(number(&operands[2..]));
-            match copies.read(PLACES_LEN, number(operands), row, WIDTH) {
+            match copies.read(PLACES_LEN, number(operands), row, SHELF.width) {
                 Ok(bytes) => (0, hexadecimal(bytes)),
                 Err(refusal) => (refusal, dash),
             }
@@ -98,7 +97,7 @@ fn due(stream: &[u8], seen: &mut BTreeMap<u8, usize>) -> Vec<u8> {
         *seen.entry(8).or_default() += 1;
         return b"0 8 -\n".to_vec();
     }
-    let mut copies = Copies::open(RECORDS_LEN, PLACES_LEN, ROWS, WIDTH, PLACES).expect("it opens");
+    let mut copies = Copies::open(SHELF.records_len(), PLACES_LEN, SHELF).expect("it opens");
     let mut reader = Reader { rest: stream };
     let mut text = Vec::new();
     let mut line = 0;
@@ -131,7 +130,7 @@ fn command(dice: &mut Dice, stream: &mut Vec<u8>) {
         2 => stream.extend([tag(dice), row(dice)].concat()),
         3 => {
             stream.extend([tag(dice), row(dice)].concat());
-            stream.extend(dice.bytes(WIDTH));
+            stream.extend(dice.bytes(SHELF.width));
         }
         4 => stream.extend(tag(dice)),
         _ => {}

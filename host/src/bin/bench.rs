@@ -2,6 +2,7 @@
 
 use rowstore_host::dice::Dice;
 use rowstore_host::judge::Records;
+use rowstore_host::layout::Measures;
 use rowstore_host::plain::Plain;
 use rowstore_host::store::Store;
 use std::hint::black_box;
@@ -17,9 +18,7 @@ const TARGETS: usize = 64;
 #[derive(Clone, Copy)]
 struct Shape {
     name: &'static str,
-    rows: usize,
-    width: usize,
-    places: usize,
+    measures: Measures,
     snapshots: usize,
     /// Entries of the table in use.
     entries: usize,
@@ -27,27 +26,21 @@ struct Shape {
 
 const SMALL: Shape = Shape {
     name: "small",
-    rows: 4,
-    width: 8,
-    places: 6,
+    measures: Measures::of(4, 8, 6),
     snapshots: 1,
     entries: 2,
 };
 
 const MIDDLE: Shape = Shape {
     name: "middle",
-    rows: 128,
-    width: 64,
-    places: 512,
+    measures: Measures::of(128, 64, 512),
     snapshots: 16,
     entries: 192,
 };
 
 const LARGEST: Shape = Shape {
     name: "largest",
-    rows: 1024,
-    width: 128,
-    places: 4096,
+    measures: Measures::of(1024, 128, 4096),
     snapshots: 64,
     entries: 3072,
 };
@@ -66,11 +59,11 @@ struct Lent {
 impl Lent {
     /// Grows a store of the shape: snapshots come and go, then rows are written.
     fn grown(shape: Shape) -> Lent {
-        let Shape { rows, places, .. } = shape;
+        let rows = shape.measures.rows;
         let mut lent = Lent {
             shape,
-            records: vec![0; 518 + 3 * (places - rows)],
-            places: vec![0; places * shape.width],
+            records: vec![0; shape.measures.records_len()],
+            places: vec![0; shape.measures.places_len()],
         };
         assert_eq!(open::<Plain>(&mut lent), 0);
         let mut dice = Dice::new(1);
@@ -101,8 +94,8 @@ impl Lent {
     fn write_drawn(&mut self, dice: &mut Dice, writes: usize) {
         let tags = self.tags();
         for _ in 0..writes.min(self.shape.entries / 4 + 1) {
-            let (tag, row) = (dice.pick(&tags), dice.below(self.shape.rows));
-            let bytes = dice.bytes(self.shape.width);
+            let (tag, row) = (dice.pick(&tags), dice.below(self.rows()));
+            let bytes = dice.bytes(self.shape.measures.width);
             Plain::write(&mut self.records, &mut self.places, tag, row, &bytes);
         }
     }
@@ -115,6 +108,10 @@ impl Lent {
         self.parsed().tags()
     }
 
+    fn rows(&self) -> usize {
+        self.shape.measures.rows
+    }
+
     /// Versions and rows drawn from those that are shared, or from those that are not.
     fn targets(&self, shared: bool) -> Vec<(u16, usize)> {
         let records = self.parsed();
@@ -125,7 +122,7 @@ impl Lent {
             others.any(|&other| records.place_of(other, row) == place)
         };
         let mut dice = Dice::new(2);
-        let mut drawn = (0..100_000).map(|_| (dice.pick(&tags), dice.below(self.shape.rows)));
+        let mut drawn = (0..100_000).map(|_| (dice.pick(&tags), dice.below(self.rows())));
         let mut targets = Vec::new();
         while targets.len() < TARGETS {
             targets.extend(drawn.find(|&(tag, row)| is_shared(tag, row) == shared));
@@ -135,13 +132,7 @@ impl Lent {
 }
 
 fn open<S: Store>(lent: &mut Lent) -> u8 {
-    let Shape {
-        rows,
-        width,
-        places,
-        ..
-    } = lent.shape;
-    S::open(&mut lent.records, &mut lent.places, rows, width, places)
+    S::open(&mut lent.records, &mut lent.places, lent.shape.measures)
 }
 
 /// One shape of store, in the states that the calls need.
@@ -155,7 +146,8 @@ struct Stock {
 
 impl Stock {
     fn of(shape: Shape) -> Stock {
-        let entries = shape.entries.min(shape.places - shape.rows - 1);
+        let Measures { rows, places, .. } = shape.measures;
+        let entries = shape.entries.min(places - rows - 1);
         let snapshots = shape.snapshots.min(63);
         Stock {
             full: Lent::grown(shape),
@@ -227,7 +219,7 @@ fn timed_snapshot<S: Store>(stock: &Stock) -> Repetition {
 fn timed_read<S: Store>(stock: &Stock) -> Repetition {
     let lent = stock.full.clone();
     let targets = [lent.targets(true), lent.targets(false)].concat();
-    let mut out = vec![0; lent.shape.width];
+    let mut out = vec![0; lent.shape.measures.width];
     timed(move |number| {
         let (tag, row) = targets[number % targets.len()];
         let answer = S::read(black_box(&lent.records), &lent.places, tag, row, &mut out);
@@ -238,7 +230,7 @@ fn timed_read<S: Store>(stock: &Stock) -> Repetition {
 
 fn timed_write<S: Store>(lent: &Lent, shared: bool) -> Repetition {
     let targets = lent.targets(shared);
-    let bytes = vec![7; lent.shape.width];
+    let bytes = vec![7; lent.shape.measures.width];
     let mut places = lent.places.clone();
     timed_changing(&lent.records, move |records, number| {
         let (tag, row) = targets[number % targets.len()];
@@ -313,7 +305,8 @@ fn medians(mut cells: Vec<Repetition>) -> Vec<f64> {
 fn print_shape(shape: Shape) {
     let stock = Stock::of(shape);
     let records = stock.full.parsed();
-    let (name, rows, width, places) = (shape.name, shape.rows, shape.width, shape.places);
+    let (name, m) = (shape.name, shape.measures);
+    let (rows, width, places) = (m.rows, m.width, m.places);
     let (snapshots, ghosts) = (shape.snapshots, records.ghosts());
     let (used, entries) = (shape.entries, places - rows);
     println!("\n{name}: {rows} rows of {width} bytes, {places} places;");
@@ -343,9 +336,7 @@ fn print_growth() {
     let stocks = GROWTH.map(|entries| {
         Stock::of(Shape {
             name: "growth",
-            rows: 256,
-            width: 32,
-            places: 256 + entries,
+            measures: Measures::of(256, 32, 256 + entries),
             snapshots: 48,
             entries,
         })

@@ -166,6 +166,15 @@ pub struct Habit {
 }
 
 impl Habit {
+    /// All calls, of any version.
+    pub const MIXED: Habit = Habit {
+        name: "mixed",
+        weights: [20, 15, 40, 15, 10],
+        source: Source::Any,
+        highest_tag: 9,
+        calls: 120,
+    };
+
     pub fn draw(&self, dice: &mut Dice, copies: &Copies, latest: u16) -> Call {
         match dice.weighted(&self.weights) {
             0 => Call::Snapshot {
@@ -175,8 +184,8 @@ impl Habit {
             1 => Call::Read {
                 tag: self.draw_tag(dice, copies),
                 row: draw_row(dice, copies),
-                places_len: draw_len(dice, copies.places * copies.width),
-                out_len: draw_len(dice, copies.width),
+                places_len: draw_len(dice, copies.measures.places_len()),
+                out_len: draw_len(dice, copies.measures.width),
             },
             2 => {
                 let tag = self.draw_tag(dice, copies);
@@ -184,7 +193,7 @@ impl Habit {
                 Call::Write {
                     tag,
                     row,
-                    places_len: draw_len(dice, copies.places * copies.width),
+                    places_len: draw_len(dice, copies.measures.places_len()),
                     bytes: draw_bytes(dice, copies, tag, row),
                 }
             }
@@ -215,10 +224,10 @@ impl Habit {
 
 /// Mostly a row of the store.
 fn draw_row(dice: &mut Dice, copies: &Copies) -> usize {
+    let rows = copies.measures.rows;
     if dice.chance(95) {
-        dice.below(copies.rows)
+        dice.below(rows)
     } else {
-        let rows = copies.rows;
         dice.pick(&[rows, rows + 1, 1024, 65_535, 65_536, usize::MAX])
     }
 }
@@ -234,10 +243,10 @@ fn draw_len(dice: &mut Dice, right: usize) -> usize {
 
 /// A row's bytes: now and then those that it has already, or too many or few.
 fn draw_bytes(dice: &mut Dice, copies: &Copies, tag: u16, row: usize) -> Vec<u8> {
-    let known = copies.tags().contains(&tag) && row < copies.rows;
+    let known = copies.tags().contains(&tag) && row < copies.measures.rows;
     if known && dice.chance(10) {
         return copies.row(tag, row).to_vec();
     }
-    let len = draw_len(dice, copies.width);
+    let len = draw_len(dice, copies.measures.width);
     dice.bytes(len)
 }

@@ -5,6 +5,7 @@ use super::tally::Tally;
 use rowstore_host::copies::{Copies, Version};
 use rowstore_host::dice::Dice;
 use rowstore_host::judge::Records;
+use rowstore_host::layout::{Measures, TABLE};
 use rowstore_host::store::{answer, Store};
 use std::fmt::Debug;
 use std::marker::PhantomData;
@@ -19,23 +20,6 @@ pub enum Care {
     Whole,
     /// Some rows; the records are judged now and then.
     Sample { rows: usize, judge_every: usize },
-}
-
-#[derive(Clone, Copy, Debug)]
-pub struct Measures {
-    pub rows: usize,
-    pub width: usize,
-    pub places: usize,
-}
-
-impl Measures {
-    pub fn records_len(&self) -> usize {
-        518 + 3 * (self.places - self.rows)
-    }
-
-    pub fn places_len(&self) -> usize {
-        self.places * self.width
-    }
 }
 
 pub struct Trial<S> {
@@ -55,16 +39,16 @@ pub struct Trial<S> {
 
 /// The copies that sound records from elsewhere start with.
 pub fn adopted(records: &Records, places: &[u8]) -> Copies {
-    let (rows, width) = (records.rows, records.width);
+    let measures = records.measures;
     let version = |tag: u16| {
         let place = |row| records.place_of(tag, row).expect("a place for every row");
-        let marks: Vec<usize> = (0..rows).map(place).collect();
-        let row_bytes = |&place: &usize| &places[place * width..(place + 1) * width];
+        let marks: Vec<usize> = (0..measures.rows).map(place).collect();
+        let row_bytes = |&place: &usize| &places[measures.stretch(place)];
         let bytes = marks.iter().flat_map(row_bytes).copied().collect();
         (tag, Version { bytes, marks })
     };
     let versions = records.tags().into_iter().map(version).collect();
-    Copies::of(rows, width, records.places, versions)
+    Copies::of(measures, versions)
 }
 
 impl<S: Store> Trial<S> {
@@ -74,13 +58,11 @@ impl<S: Store> Trial<S> {
         let mut places = vec![0x5a; measures.places_len() + SPARE];
         let lent_records = &mut records[..measures.records_len()];
         let lent_places = &mut places[..measures.places_len()];
-        let Measures { rows, width, .. } = measures;
-        let opened = S::open(lent_records, lent_places, rows, width, measures.places);
+        let opened = S::open(lent_records, lent_places, measures);
         assert_eq!(opened, 0, "{title}: opening {measures:?}");
         let zero = lent_places.iter().all(|&byte| byte == 0);
         assert!(zero, "{title}: opened places are not zero");
-        let (records_len, places_len) = (measures.records_len(), measures.places_len());
-        let copies = Copies::open(records_len, places_len, rows, width, measures.places)
+        let copies = Copies::open(lent_records.len(), lent_places.len(), measures)
             .expect("copies open as the store does");
         let mut trial = Trial::on(title, measures, care, copies);
         (trial.records, trial.places) = (records, places);
@@ -91,13 +73,8 @@ impl<S: Store> Trial<S> {
     /// Goes on from sound records and their places.
     pub fn adopt(title: &str, records: &[u8], places: &[u8]) -> Trial<S> {
         let parsed = Records::of(records).expect("records of a fitting length");
-        let measures = Measures {
-            rows: parsed.rows,
-            width: parsed.width,
-            places: parsed.places,
-        };
         let copies = adopted(&parsed, places);
-        let mut trial = Trial::on(title, measures, Care::Whole, copies);
+        let mut trial = Trial::on(title, parsed.measures, Care::Whole, copies);
         trial.records = [records, &[0; SPARE]].concat();
         trial.places = [places, &[0; SPARE]].concat();
         trial.compare_all(1);
@@ -166,7 +143,7 @@ impl<S: Store> Trial<S> {
             let call = habit.draw(dice, &self.copies, self.latest);
             if dice.chance(3) {
                 let right = self.measures.records_len();
-                let wrong = [0, 517, right - 1, right + 1, right + SPARE];
+                let wrong = [0, TABLE - 1, right - 1, right + 1, right + SPARE];
                 self.misfit(&call, dice.pick(&wrong));
             }
             self.call(&call);
@@ -281,10 +258,9 @@ impl<S: Store> Trial<S> {
                 self.check(&free.len(), &(still.len() + 1), call, "the places free");
             }
         }
-        let width = self.measures.width;
         let mut wanted = places.clone();
         for place in filled {
-            let stretch = place * width..(place + 1) * width;
+            let stretch = self.measures.stretch(place);
             wanted[stretch.clone()].copy_from_slice(&self.places[stretch]);
         }
         self.check(&self.places, &wanted, call, "the places not written");
@@ -339,8 +315,7 @@ impl<S: Store> Trial<S> {
     /// The bytes that lie in the place that the judge finds.
     fn compare_place(&mut self, records: &Records, tag: u16, row: usize) {
         let place = records.place_of(tag, row).expect("a place for every row");
-        let width = self.measures.width;
-        let got = &self.places[place * width..(place + 1) * width];
+        let got = &self.places[self.measures.stretch(place)];
         let same = got == self.copies.row(tag, row);
         assert!(same, "{}: tag {tag} row {row}, place {place}", self.at());
         self.tally.rows += 1;
