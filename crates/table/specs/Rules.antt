@@ -45,7 +45,8 @@ pub record EntryFits (t : Tree) (e : Table) (i : ℕ) : Type 0 where
   pub named : at (e .node) i ≢ 0 → InUse t (at (e .node) i) × (at (e .row) i < e .rows)
   pub once : (j : ℕ) → j < i → at (e .node) i ≢ 0 → at (e .node) j ≡ at (e .node) i → at (e .row) j ≡ at (e .row) i → ⊥
 
--- a verdict on P, and if it is good, the marks of the entries below i
+-- a verdict on P, and if it is good, the marks of the entries below i. Left free, since nobody reads them: marks of rows from L on, and all marks
+-- where the verdict is bad
 pub record Verdict (P : Type 0) (e : Table) (i : ℕ) (marks : List ℕ) (b : Bool) : Type 0 where
   pub decided : Decides b P
   pub marked : b ≡ true → Marked e marks i

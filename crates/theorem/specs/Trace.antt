@@ -45,7 +45,7 @@ abbrev pub handed : ℕ → List ℕ → ℕ → ℕ → Handed
 handed number bytes inUse alive = record { number = number; bytes = bytes; inUse = inUse; alive = alive }
 
 -- one call on a state, what it hands out, and the state it leaves: exactly what the `ensures` of snapshots::snapshot, queries::read,
--- writing::write, deleting::delete and queries::count say, with nothing in between
+-- writing::write, deleting::delete and queries::count say, with nothing in between; of a read, all but which part of the places it hands out
 pub data Call-ends (z : Records) (places : List ℕ) : Call → Handed → State → Type 0 where
   snapshot-ends : {source new number : ℕ} {tree : Tree} → SnapshotEnds z source new number tree
       → Call-ends z places (snapshot source new) (handed number [] 0 0) (state (withTree z tree) places)
