@@ -160,8 +160,8 @@ abbrev arg : ℕ → Operand
 arg i = copy (place i [])
 
 -- _i = _j; _i = _j.k; and the slice in _j is lent again, in _i and _k
-abbrev set : ℕ → ℕ → Body
-set i j = assign (place i []) (rvOpd (copy (place j [])))
+abbrev same : ℕ → ℕ → Body
+same i j = assign (place i []) (rvOpd (copy (place j [])))
 
 abbrev part : ℕ → ℕ → ℕ → Body
 part i j k = assign (place i []) (rvOpd (copy (place j (field k ∷ []))))
@@ -173,12 +173,12 @@ abbrev wide : ℕ → ℕ → ℕ → Body
 wide k i j = assign (place k []) (aggregate (arg i ∷ copy (place j (field 1 ∷ [])) ∷ []))
 
 abbrev leaving : Body
-leaving = seq (set 0 9) return
+leaving = seq (same 0 9) return
 
 module _ (G : Carried) (make here moved serve : Name) where
   abbrev onward : Body
   onward =
-      seq (set 13 8)
+      seq (same 13 8)
       (seq (call here (arg 13 ∷ arg 2 ∷ []) (place 10 []))
       (seq (part 11 10 1)
       (seq (part 14 8 0)
@@ -192,7 +192,7 @@ module _ (G : Carried) (make here moved serve : Name) where
       (seq (thin 22 7 w8)
       (seq (wide 23 22 7)
       (seq (call serve (arg 9 ∷ arg 10 ∷ arg 14 ∷ arg 15 ∷ arg 17 ∷ arg 19 ∷ arg 21 ∷ arg 23 ∷ []) (place 9 []))
-      (seq (set 24 8)
+      (seq (same 24 8)
       (call moved (arg 24 ∷ arg 11 ∷ []) (place 8 []))))))))))))))))
 
   abbrev turn : Body
@@ -204,7 +204,7 @@ module _ (G : Carried) (make here moved serve : Name) where
     outlives = [];
     params = 7;
     locals = value (G .held) ∷ value (sliceAs (named 0)) ∷ value (tyInt w64) ∷ value (G .held) ∷ value (sliceMut (named 1) w8) ∷ value (sliceMut (named 2) w16) ∷ value (sliceMut (named 3) w8) ∷ value (sliceMut (named 4) w8) ∷ value (R′.mir erased) ∷ value (G .held) ∷ value S′.mir ∷ value (tyInt w64) ∷ value tyBool ∷ value (R′.mir erased) ∷ value (sliceAs erased) ∷ value (tyInt w64) ∷ value (refMut w8) ∷ value (sliceMut erased w8) ∷ value (refMut w16) ∷ value (sliceMut erased w16) ∷ value (refMut w8) ∷ value (sliceMut erased w8) ∷ value (refMut w8) ∷ value (sliceMut erased w8) ∷ value (R′.mir erased) ∷ [];
-    body = seq (call make (arg 1 ∷ []) (place 8 [])) (seq (set 9 3) (seq (block (loop turn)) leaving));
+    body = seq (call make (arg 1 ∷ []) (place 8 [])) (seq (same 9 3) (seq (block (loop turn)) leaving));
   }
 
 -- a local is read, whose value is entry n

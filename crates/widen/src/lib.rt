@@ -2,15 +2,15 @@
 ghost use mathlib.Core.Path.{_≡_};
 
 // A byte.
-pub fn byte(x: u8) -> usize
-    ensures { λ r. ⌜ r ≡ x ⌝ }
+pub fn byte(b: u8) -> usize
+    ensures { λ r. ⌜ r ≡ b ⌝ }
 {
-    x as usize
+    b as usize
 }
 
 // A number of 16 bits.
-pub fn pair(x: u16) -> usize
-    ensures { λ r. ⌜ r ≡ x ⌝ }
+pub fn pair(n: u16) -> usize
+    ensures { λ r. ⌜ r ≡ n ⌝ }
 {
-    x as usize
+    n as usize
 }
