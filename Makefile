@@ -18,10 +18,12 @@ example: library
 	@gcc -std=c11 -Wall -Wextra -Werror -O2 -Iinclude example/host.c target/staticlib/librowstore.a -o target/example/host
 	@target/example/host
 
-# The prover's verdict comes first, since it starts from nothing, and is said again at the end.
+# The prover's verdict comes first, since it starts from nothing, and is said again at the end. It runs one job more than there are
+# processors, four at most: chains of crates leave a processor idle otherwise.
 test:
 	@verdict=$$(mktemp); trap 'rm -f "$$verdict"' EXIT; \
-	rt ci | tee "$$verdict"; $(MAKE) --no-print-directory host; tail -n 1 "$$verdict"
+	n=$$(nproc); RT_JOBS=$${RT_JOBS:-$$((n < 4 ? n + 1 : 4))} rt ci | tee "$$verdict"; \
+	$(MAKE) --no-print-directory host; tail -n 1 "$$verdict"
 
 # The tests that call the static library or the program, from Rust and from C.
 host: library program

@@ -1,10 +1,3 @@
 pub mod Agree
-pub mod Members
-pub mod Different
-pub mod Living
-pub mod Counting
-pub mod Updates
 pub mod Verdicts
-pub mod Keeping
-pub mod Writing
 pub mod Steps

@@ -11,10 +11,12 @@ use borrow.Author.Tests.{eqb-false, leb-false, not-false}
 use Rattle.measures.specs.declared.Size.{Size}
 use Rattle.model.specs.Call.{Call, snapshot, read, write, delete, count}
 use Rattle.answers.specs.Answers.{Refusal, places-full, row, counts, refused}
-use Rattle.model.specs.Model.{Cell, Model, alive, placesUsed, snapshotsAlive, tests, accepted, verdict, answer}
+use Rattle.model.specs.Model.{Model, tests, accepted, verdict, answer}
 use Rattle.answers.specs.Tests.{Tests, orElse, refusal, unless}
-use Rattle.agreement.specs.Agree.{Map, Live, mapVerdict, mapAnswer, Agree}
-use Rattle.agreement.specs.Counting.{used-tags, snapshots-tags, shared-tags, used-pattern, shared-pattern}
+use Rattle.copies.specs.Copies.{Cell, alive, snapshotsAlive, Live}
+use Rattle.copies.specs.Counting.{snapshots-tags}
+use Rattle.maps.specs.Keeping.{used-same, shared-same}
+use Rattle.agreement.specs.Agree.{RowMap, mapVerdict, mapAnswer, Agree}
 
 -- none of the tests holds
 abbrev pub Passed : Tests → Type 0
@@ -57,32 +59,29 @@ unless-same : {A : Type 0} (v : Option Refusal) (f : Refusal → A) {x y : A} �
 unless-same none f h = h refl
 unless-same (some r) f h = refl
 
-module _ (z : Size) {m : Map} {s : Model} (a : Agree z m s) where
-  -- as many places as marks
-  pub used-same : placesUsed (z .rows) (m .tags) (m .place) ≡ placesUsed (z .rows) (s .snapshots) (s .mark)
-  used-same = used-tags (m .tags) (s .snapshots) (a .tags) (z .rows) (m .place) ∙ used-pattern (z .rows) (s .snapshots) (m .place) (s .mark) (a .names)
+module _ (z : Size) {m : RowMap} {s : Model} (a : Agree z m s) where
+  living-same : (t : ℕ) → alive (m .tags) t ≡ alive (s .snapshots) t
+  living-same = a .rows .living
 
   snapshots-same : snapshotsAlive (m .tags) ≡ snapshotsAlive (s .snapshots)
-  snapshots-same = snapshots-tags (m .tags) (s .snapshots) (a .tags)
+  snapshots-same = snapshots-tags (m .tags) (s .snapshots) living-same
 
   pub verdict-same : (c : Call) → mapVerdict z m c ≡ verdict z s c
   unfolding mapVerdict verdict tests
-  verdict-same (snapshot u t) = rw (a .tags u, a .tags t, snapshots-same)
-  verdict-same (read t r) = rw (a .tags t)
-  verdict-same (write t r bs) = rw (a .tags t) (refusal-same _ _ _ _ (λ o. refusal-same _ _ _ _ (λ l. refusal-same _ _ _ _ (λ h.
-      ap₂ (λ (x : Bool) (n : ℕ). refusal ((x && leb (z .places) n, places-full) ∷ []))
-      (shared-tags (m .tags) (s .snapshots) (a .tags) (m .place) t r ∙ shared-pattern (z .rows) (s .snapshots) (m .place) (s .mark) (a .names) t r (not-false _ h, leb-false _ _ l))
-      used-same))))
-  verdict-same (delete t) = rw (a .tags t)
+  verdict-same (snapshot u t) = rw (living-same u, living-same t, snapshots-same)
+  verdict-same (read t r) = rw (living-same t)
+  verdict-same (write t r bs) = rw (living-same t) (refusal-same _ _ _ _ (λ o. refusal-same _ _ _ _ (λ l. refusal-same _ _ _ _ (λ h.
+      ap₂ (λ (x : Bool) (n : ℕ). refusal ((x && leb (z .places) n, places-full) ∷ [])) (shared-same (z .rows) (a .rows) t r (not-false _ h, leb-false _ _ l)) (used-same (z .rows) (a .rows))))))
+  verdict-same (delete t) = rw (living-same t)
   verdict-same count = refl
 
-  accepted-same : (c : Call) → verdict z s c ≡ none → accepted z (m .tags) (m .place) (λ d. m .bytes (m .place d)) c ≡ accepted z (s .snapshots) (s .mark) (s .bytes) c
+  accepted-same : (c : Call) → verdict z s c ≡ none → accepted z (m .tags) (m .place) (λ d. m .content (m .place d)) c ≡ accepted z (s .snapshots) (s .rows .mark) (s .rows .content) c
   unfolding accepted verdict
   accepted-same (snapshot u t) e = refl
-  accepted-same (read t r) e = ap row (a .bytes (t, r) (read-passed z (s .snapshots) (s .mark) t r e))
+  accepted-same (read t r) e = ap row (a .rows .content (t, r) (read-passed z (s .snapshots) (s .rows .mark) t r e))
   accepted-same (write t r bs) e = refl
   accepted-same (delete t) e = refl
-  accepted-same count e = ap₂ counts used-same snapshots-same
+  accepted-same count e = ap₂ counts (used-same (z .rows) (a .rows)) snapshots-same
 
   pub answer-same : (c : Call) → mapAnswer z m c ≡ answer z s c
   unfolding mapAnswer answer

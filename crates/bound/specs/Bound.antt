@@ -10,9 +10,9 @@ use borrow.Author.Tests.{eq-eqb, ne-eqb, eqb-true}
 use Rattle.basics.specs.Decide.{at, and-yes, not-yes}
 use Rattle.basics.specs.Count.{sum, one, count}
 use Rattle.basics.specs.CountLaws.{sum-cong, sum-mono, sum-add, sum-zero, sum-ones, sum-swap, one-yes, one-no, one-most, count-two, count-some, count-has, count-eqb}
-use Rattle.records.specs.declared.Tree.{Tree}
-use Rattle.records.specs.Records.{InUse, Snapshot, up, Child, isUsed, nodesUsed, isChild, children, isSnapshot, snapshots}
-use Rattle.records.specs.Sound.{States, Linked, Branching}
+use Rattle.trees.specs.declared.Tree.{Tree}
+use Rattle.trees.specs.Trees.{InUse, Snapshot, up, Child, isUsed, nodesUsed, isChild, children, isSnapshot, snapshots}
+use Rattle.trees.specs.Rules.{States, Linked, Branching}
 use Rattle.tree.specs.Nodes.{used-yes, used-no, child-yes, snapshot-of, two-children}
 use Rattle.tree.specs.Going.{reaches-ind}
 

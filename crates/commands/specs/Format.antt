@@ -1,5 +1,5 @@
 -- The commands of a stream (SPEC 9.1): what stands at a position. Definitions only. Assumes nothing.
-use mathlib.Core.Bool.{cond}
+use mathlib.Core.Bool.{Bool, true, false, cond}
 use mathlib.Core.List.{List, [], _∷_}
 use mathlib.Core.Option.{Option, none, some}
 use Prim.Native.Nat.{ℕ, zero, suc, _+_, _-_, _≤_, _<_}
@@ -43,6 +43,17 @@ refusalOf (Read tag row) = none
 refusalOf (Write tag row) = none
 refusalOf (Delete tag) = none
 refusalOf Count = none
+
+-- a command whose call can change the store
+abbrev pub changes : Command → Bool
+changes Over = false
+changes Unknown = false
+changes Cut = false
+changes (Snapshot source tag) = true
+changes (Read tag row) = false
+changes (Write tag row) = true
+changes (Delete tag) = true
+changes Count = false
 
 -- a command, the position behind it, and the number of that refusal, 0 if there is none
 abbrev pub stand : Command → ℕ → Step

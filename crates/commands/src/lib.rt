@@ -3,7 +3,7 @@
 ghost use mathlib.Core.Path.{_≡_};
 ghost use Prim.Native.Nat.{_+_, _≤_, _<_};
 ghost use Rattle.basics.specs.Decide.{at};
-ghost use Rattle.commands.specs.Format.{sizeOf, commandOf, stepAt, Reading};
+ghost use Rattle.commands.specs.Format.{changes, sizeOf, commandOf, stepAt, Reading};
 
 // What stands at a position. A write's bytes follow its two operands in the stream.
 pub enum Command {
@@ -22,6 +22,22 @@ pub struct Step {
     pub command: Command,
     pub next: usize,
     pub number: u8,
+}
+
+// Is it a command whose call can change the store?
+pub fn changes(command: Command) -> bool
+    ensures { λ b. ⌜ b ≡ changes command ⌝ }
+{
+    match command {
+        Command::Over => false,
+        Command::Unknown => false,
+        Command::Cut => false,
+        Command::Snapshot { .. } => true,
+        Command::Read { .. } => false,
+        Command::Write { .. } => true,
+        Command::Delete { .. } => true,
+        Command::Count => false,
+    }
 }
 
 // How many bytes a command has, where a row has `width`; 0 if the kind is unknown.
@@ -76,7 +92,7 @@ fn command_of(stream: &[u8], p: usize, width: usize) -> Command
 }
 
 // The command at p, and where the next one starts. An unknown kind goes before a stream that ends inside a command.
-fn next(stream: &[u8], p: usize, width: usize) -> Step
+pub fn next(stream: &[u8], p: usize, width: usize) -> Step
     requires { ⌜ width ≤ 1024 ⌝ }
     ensures { λ r. ⌜ r ≡ stepAt width (now (stream .entry)) p ⌝ }
 {
@@ -107,35 +123,4 @@ fn next(stream: &[u8], p: usize, width: usize) -> Step
         next: p + n,
         number: 0,
     }
-}
-
-// A stream, and the position of its next command.
-pub struct Reader<'a> {
-    pub stream: &'a [u8],
-    pub at: usize,
-}
-
-// The reader at a stream's first command.
-pub fn make<'a>(stream: &'a [u8]) -> Reader<'a>
-    ensures { λ r. ⌜ (r .stream ≡ stream .entry) × (r .at ≡ 0) ⌝ }
-{
-    Reader { stream, at: 0 }
-}
-
-// The reader at another position.
-pub fn moved<'a>(reader: Reader<'a>, at: usize) -> Reader<'a>
-    ensures { λ r. ⌜ (r .stream ≡ reader .entry .stream) × (r .at ≡ at) ⌝ }
-{
-    Reader {
-        stream: reader.stream,
-        at,
-    }
-}
-
-// The reader's next command.
-pub fn command_here<'a>(reader: Reader<'a>, width: usize) -> Step
-    requires { ⌜ width ≤ 1024 ⌝ }
-    ensures { λ s. ⌜ s ≡ stepAt width (now (reader .entry .stream)) (reader .entry .at) ⌝ }
-{
-    next(reader.stream, reader.at, width)
 }

@@ -1,20 +1,19 @@
 -- What a delete answers and leaves: the tests of SPEC 7.1 after 20, and the tree and table. Definitions only. Assumes nothing.
 use mathlib.Core.Path.{_≡_}
-use mathlib.Core.Bool.{Bool, not, _&&_, cond}
+use mathlib.Core.Bool.{not}
 use mathlib.Core.List.{List, [], _∷_}
 use mathlib.Core.Option.{Option, none, some}
 use Prim.Native.Nat.{ℕ}
 use lib.Dec.{eqb}
-use Rattle.basics.specs.Decide.{at}
-use Rattle.records.specs.declared.Tree.{Tree}
-use Rattle.records.specs.Records.{Records, table, Snapshot, up, children, version}
-use Rattle.records.specs.Reading.{lives}
+use Rattle.trees.specs.declared.Tree.{Tree}
+use Rattle.records.specs.Records.{Records, table, lives}
+use Rattle.trees.specs.Trees.{Snapshot, version}
 use Rattle.records.specs.Sound.{Sound}
 use Rattle.answers.specs.Answers.{Refusal, origin-tag, unknown-tag, unsound, number}
 use Rattle.answers.specs.Tests.{Tests, refusal}
 use Rattle.soundness.specs.Judged.{Judged, Leaves}
-use Rattle.nodes.specs.Nodes.{firstChild}
-use Rattle.removal.specs.Removal.{ghosted, emptied, spliced, freedList, relabelled}
+use Rattle.removal.specs.Removal.{ghosted, freedList}
+use Rattle.pruning.specs.Pruning.{prunedTree, prunedNode, settledTree, settledNode}
 
 unfoldable pub deleteTests : Records → ℕ → Tests
 deleteTests z tag = (eqb tag 0, origin-tag) ∷ (not (lives z tag), unknown-tag) ∷ []
@@ -30,41 +29,6 @@ pub record Left : Type 0 where
 
 abbrev pub left : Tree → List ℕ → List ℕ → Left
 left tree node row = record { tree = tree; node = node; row = row }
-
--- Node v, a ghost: without a child it is taken away, and its parent may be left with one child; else it may have one itself
-
-abbrev pub prunedTree′ : Tree → ℕ → Option ℕ → Tree
-prunedTree′ t v none = emptied t v
-prunedTree′ t v (some c) = t
-
-abbrev pub prunedNode′ : Tree → ℕ → Option ℕ → ℕ
-prunedNode′ t v none = up t v
-prunedNode′ t v (some c) = v
-
-unfoldable pub prunedTree : Tree → ℕ → Tree
-prunedTree t v = prunedTree′ t v (firstChild t v)
-
-unfoldable pub prunedNode : Tree → ℕ → ℕ
-prunedNode t v = prunedNode′ t v (firstChild t v)
-
--- Node x: a ghost with one child is taken out, and its entries become the child's
-
-unfoldable pub thin : Tree → ℕ → Bool
-thin t x = eqb (at (t .state) x) 2 && eqb (children t x) 1
-
-abbrev pub splicedBy : Tree → ℕ → Option ℕ → Tree
-splicedBy t x none = t
-splicedBy t x (some w) = spliced t x w
-
-abbrev pub relabelledBy : ℕ → Option ℕ → List ℕ → List ℕ
-relabelledBy x none node = node
-relabelledBy x (some w) node = relabelled x w node
-
-unfoldable pub settledTree : Tree → ℕ → Tree
-settledTree t x = cond (thin t x) (splicedBy t x (firstChild t x)) t
-
-unfoldable pub settledNode : Tree → ℕ → List ℕ → List ℕ
-settledNode t x node = cond (thin t x) (relabelledBy x (firstChild t x) node) node
 
 -- The effect: the entries that only v reads are freed, v becomes a ghost, and what is superfluous goes
 

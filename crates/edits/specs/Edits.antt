@@ -7,9 +7,9 @@ use Prim.Native.Nat.{ℕ, _<_}
 use lib.Dec.{eqb}
 use lib.ListN.{length, set}
 use Rattle.basics.specs.Decide.{at}
-use Rattle.records.specs.declared.Tree.{Tree}
-use Rattle.records.specs.Records.{Records, treeOf, recordsOf, Child, version}
-use Rattle.records.specs.Reading.{lives, tagPlace}
+use Rattle.trees.specs.declared.Tree.{Tree}
+use Rattle.records.specs.Records.{Records, recordsOf, lives, tagPlace}
+use Rattle.trees.specs.Trees.{treeOf, Child, version}
 use Rattle.records.specs.Sound.{Sound}
 
 -- Changes

@@ -7,9 +7,11 @@ use native.Mathlib.Decide.{ℕ-discrete}
 use native.Mathlib.Omega.{arith}
 use lib.ListN.{length, length-set}
 use Rattle.basics.specs.Decide.{at}
-use Rattle.records.specs.Records.{Table, Records, table, InUse}
-use Rattle.records.specs.Reading.{Owns, entry}
-use Rattle.records.specs.Sound.{Excepting, Sound}
+use Rattle.trees.specs.Trees.{Table, InUse}
+use Rattle.records.specs.Records.{Records, table}
+use Rattle.trees.specs.Reading.{Owns, entry}
+use Rattle.trees.specs.Rules.{Excepting}
+use Rattle.records.specs.Sound.{Sound}
 use Rattle.reading.specs.Reads.{entry-some, entry-none, entry-own}
 use Rattle.edits.specs.Edits.{withEntry, FreeEntry}
 use Rattle.edits.specs.Solve.{at-same, at-other}

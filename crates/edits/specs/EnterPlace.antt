@@ -7,9 +7,11 @@ use native.Mathlib.Decide.{ℕ-discrete}
 use native.Mathlib.Omega.{arith}
 use lib.ListN.{length, length-set}
 use Rattle.basics.specs.Decide.{at}
-use Rattle.records.specs.Records.{Records, table, InUse, Alive, up, version}
-use Rattle.records.specs.Reading.{Reads, entry, placeOr, place, lives, tagPlace}
-use Rattle.records.specs.Sound.{AllRead, Sound}
+use Rattle.records.specs.Records.{Records, table, lives, tagPlace}
+use Rattle.trees.specs.Trees.{InUse, Alive, up, version}
+use Rattle.trees.specs.Reading.{Reads, entry, placeOr, place}
+use Rattle.trees.specs.Rules.{AllRead}
+use Rattle.records.specs.Sound.{Sound}
 use Rattle.reading.specs.Reads.{reads-place, place-root, place-own, place-up}
 use Rattle.edits.specs.Edits.{withEntry}
 use Rattle.edits.specs.Solve.{Solves, place-only, tag-place}

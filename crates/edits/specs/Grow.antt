@@ -10,9 +10,9 @@ use borrow.Author.Tests.{eqb-true}
 use Rattle.basics.specs.Decide.{at, and-no}
 use Rattle.basics.specs.Count.{sum, one, count}
 use Rattle.basics.specs.CountLaws.{one-yes, one-no, count-cong}
-use Rattle.records.specs.declared.Tree.{Tree}
-use Rattle.records.specs.Records.{InUse, Alive, Ghost, Snapshot, up, Child, Reaches, isSnapshot, snapshots}
-use Rattle.records.specs.Sound.{States, Linked, Tagged, Branching}
+use Rattle.trees.specs.declared.Tree.{Tree}
+use Rattle.trees.specs.Trees.{InUse, Alive, Ghost, Snapshot, up, Child, Reaches, isSnapshot, snapshots}
+use Rattle.trees.specs.Rules.{States, Linked, Tagged, Branching}
 use Rattle.tree.specs.Going.{reaches-ind, reaches-root, reaches-up}
 use Rattle.tree.specs.Nodes.{snapshot-yes}
 use Rattle.tree.specs.Loops.{linked-reaches}

@@ -8,10 +8,12 @@ use native.Mathlib.Decide.{ℕ-discrete}
 use native.Mathlib.Omega.{arith}
 use borrow.Author.Tests.{eq-eqb, ne-eqb}
 use Rattle.basics.specs.Decide.{at}
-use Rattle.records.specs.declared.Tree.{Tree}
-use Rattle.records.specs.Records.{Records, table, InUse, Alive, up, Child, snapshots, version}
-use Rattle.records.specs.Reading.{entry, place, lives}
-use Rattle.records.specs.Sound.{States, Linked, Tagged, Excepting, AllRead, Sound}
+use Rattle.trees.specs.declared.Tree.{Tree}
+use Rattle.records.specs.Records.{Records, table, lives}
+use Rattle.trees.specs.Trees.{InUse, Alive, up, Child, snapshots, version}
+use Rattle.trees.specs.Reading.{entry, place}
+use Rattle.trees.specs.Rules.{States, Linked, Tagged, Excepting, AllRead}
+use Rattle.records.specs.Sound.{Sound}
 use Rattle.tree.specs.Nodes.{version-alive}
 use Rattle.reading.specs.Reads.{entry-some, reads-place, place-root}
 use Rattle.edits.specs.Edits.{withTree, Copied}

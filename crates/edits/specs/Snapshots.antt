@@ -17,9 +17,9 @@ use Prim.Native.Nat.{ℕ, _<_}
 use native.Mathlib.Decide.{ℕ-discrete}
 use native.Mathlib.Omega.{arith}
 use lib.ListN.{length, set, length-set}
-use Rattle.records.specs.declared.Tree.{Tree}
-use Rattle.records.specs.Reading.{lives}
-use Rattle.records.specs.Records.{Records, up, Child, snapshots, version}
+use Rattle.trees.specs.declared.Tree.{Tree}
+use Rattle.records.specs.Records.{lives, Records}
+use Rattle.trees.specs.Trees.{up, Child, snapshots, version}
 use Rattle.records.specs.Sound.{Sound}
 use Rattle.tree.specs.Nodes.{version-alive}
 use Rattle.edits.specs.Edits.{grown, hung, withTree, Whole, EmptyNode, Copied}

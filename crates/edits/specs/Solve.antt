@@ -12,10 +12,12 @@ use lib.ListN.{length, set}
 use lib.Seq.{getD-set-same, getD-set-other}
 use Rattle.basics.specs.Decide.{at}
 use Rattle.basics.specs.CountLaws.{first-only, first-nothing}
-use Rattle.records.specs.declared.Tree.{Tree}
-use Rattle.records.specs.Records.{Table, Records, table, InUse, Alive, up, Reaches, isVersion, version}
-use Rattle.records.specs.Reading.{entry, placeOr, place, isFound, lives, tagPlace}
-use Rattle.records.specs.Sound.{States, Linked, Tagged, Sound}
+use Rattle.trees.specs.declared.Tree.{Tree}
+use Rattle.trees.specs.Trees.{Table, InUse, Alive, up, Reaches, isVersion, version}
+use Rattle.records.specs.Records.{Records, table, isFound, lives, tagPlace}
+use Rattle.trees.specs.Reading.{entry, placeOr, place}
+use Rattle.trees.specs.Rules.{States, Linked, Tagged}
+use Rattle.records.specs.Sound.{Sound}
 use Rattle.tree.specs.Going.{reaches-ind, reaches-root}
 use Rattle.tree.specs.Nodes.{version-yes, version-no, version-of, version-alive}
 use Rattle.reading.specs.Reads.{place-root, place-own, place-up}

@@ -7,8 +7,8 @@ use native.Mathlib.Omega.{arith}
 use lib.ListN.{set, length-set}
 use lib.Seq.{getD-set-same, getD-set-other}
 use Rattle.basics.specs.Decide.{at}
-use Rattle.records.specs.declared.Tree.{Tree}
-use Rattle.records.specs.Records.{InUse, Alive, Snapshot, up, Child}
+use Rattle.trees.specs.declared.Tree.{Tree}
+use Rattle.trees.specs.Trees.{InUse, Alive, Snapshot, up, Child}
 use Rattle.tree.specs.Rules.{TreeSound}
 use Rattle.edits.specs.Edits.{split, Whole, EmptyNode}
 

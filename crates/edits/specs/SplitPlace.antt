@@ -7,9 +7,11 @@ use Prim.Native.Nat.{ℕ, _+_}
 use native.Mathlib.Decide.{ℕ-discrete}
 use native.Mathlib.Omega.{arith}
 use Rattle.basics.specs.Decide.{at}
-use Rattle.records.specs.Records.{Records, table, InUse, Alive, up, version}
-use Rattle.records.specs.Reading.{Reads, entry, place, lives, tagPlace}
-use Rattle.records.specs.Sound.{Excepting, AllRead, Sound}
+use Rattle.records.specs.Records.{Records, table, lives, tagPlace}
+use Rattle.trees.specs.Trees.{InUse, Alive, up, version}
+use Rattle.trees.specs.Reading.{Reads, entry, place}
+use Rattle.trees.specs.Rules.{Excepting, AllRead}
+use Rattle.records.specs.Sound.{Sound}
 use Rattle.tree.specs.Nodes.{version-alive}
 use Rattle.reading.specs.Reads.{entry-some, reads-place, place-root}
 use Rattle.edits.specs.Edits.{split, withTree}

@@ -8,9 +8,9 @@ use native.Mathlib.Omega.{arith}
 use borrow.Author.Tests.{eqb-true}
 use lib.Dec.{eqb}
 use Rattle.basics.specs.Decide.{at, and-no}
-use Rattle.records.specs.declared.Tree.{Tree}
-use Rattle.records.specs.Records.{InUse, Alive, Ghost, up, Child, Reaches, isSnapshot, snapshots}
-use Rattle.records.specs.Sound.{States, Linked, Tagged, Branching}
+use Rattle.trees.specs.declared.Tree.{Tree}
+use Rattle.trees.specs.Trees.{InUse, Alive, Ghost, up, Child, Reaches, isSnapshot, snapshots}
+use Rattle.trees.specs.Rules.{States, Linked, Tagged, Branching}
 use Rattle.tree.specs.Going.{reaches-ind, reaches-root, reaches-up}
 use Rattle.tree.specs.Loops.{linked-reaches}
 use Rattle.tree.specs.Nodes.{snapshot-yes}

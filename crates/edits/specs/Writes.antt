@@ -6,8 +6,8 @@ use mathlib.Core.Option.{some}
 use Prim.Native.Nat.{ℕ, _+_, _<_}
 use native.Mathlib.Omega.{arith}
 use Rattle.basics.specs.Decide.{at}
-use Rattle.records.specs.Reading.{lives, tagPlace}
-use Rattle.records.specs.Records.{Records, Child, version}
+use Rattle.records.specs.Records.{lives, tagPlace, Records}
+use Rattle.trees.specs.Trees.{Child, version}
 use Rattle.records.specs.Sound.{Sound}
 use Rattle.tree.specs.Nodes.{version-alive}
 use Rattle.edits.specs.Edits.{split, withTree, withEntry, Whole, EmptyNode, FreeEntry, Parted, Moved, Saved}

@@ -2,9 +2,9 @@
 use mathlib.Core.Logic.{_≢_}
 use mathlib.Core.List.{List}
 use Prim.Native.Nat.{ℕ}
-use Rattle.records.specs.declared.Tree.{Tree}
-use Rattle.records.specs.Records.{InUse, Alive}
-use Rattle.records.specs.Sound.{Linked}
+use Rattle.trees.specs.declared.Tree.{Tree}
+use Rattle.trees.specs.Trees.{InUse, Alive}
+use Rattle.trees.specs.Rules.{Linked}
 use Rattle.table.specs.Rules.{MarkedRow, Meets}
 
 -- a living version other than the one at node v, the one at node n, reads node g's own row r

@@ -9,9 +9,9 @@ use native.Mathlib.Omega.{arith}
 use lib.ListN.{length, set, length-set, List·getD-eq-default}
 use lib.Seq.{getD-set-same, getD-set-other}
 use Rattle.basics.specs.Decide.{at, decides-false}
-use Rattle.records.specs.declared.Tree.{Tree}
-use Rattle.records.specs.Records.{Table, InUse, Alive}
-use Rattle.records.specs.Reading.{place}
+use Rattle.trees.specs.declared.Tree.{Tree}
+use Rattle.trees.specs.Trees.{Table, InUse, Alive}
+use Rattle.trees.specs.Reading.{place}
 use Rattle.reading.specs.Reads.{place-reads, reads-place}
 use Rattle.sharing.specs.Laws.{shared-decides}
 use Rattle.table.specs.Rules.{Judging, Meets}

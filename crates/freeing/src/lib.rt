@@ -2,24 +2,11 @@
 ghost use mathlib.Core.Path.{_≡_};
 ghost use Prim.Native.Nat.{_<_};
 ghost use Rattle.basics.specs.Decide.{Decides};
-ghost use Rattle.records.specs.Records.{treeOf, tableOf, InUse};
+ghost use Rattle.trees.specs.Trees.{treeOf, tableOf, InUse};
 ghost use Rattle.table.specs.Rules.{Seeking, Judging};
 ghost use Rattle.removal.specs.Removal.{Freed};
 ghost use Rattle.freeing.specs.Freeing.{Asking, OtherMeets, OthersMeet, MeetsAlone};
 use measures::Row;
-
-// A byte as an index, and a 16-bit number.
-fn wide(x: u8) -> usize
-    ensures { λ r. ⌜ r ≡ x ⌝ }
-{
-    x as usize
-}
-
-fn wide16(x: u16) -> usize
-    ensures { λ r. ⌜ r ≡ x ⌝ }
-{
-    x as usize
-}
 
 // Does a living version other than the one at node v, the one at node n, read node g's own row r?
 fn other_reads<'a>(
@@ -113,8 +100,8 @@ pub fn free_alone<'a>(
 {
     let mut i: usize = 0;
     while i < node.len() {
-        let g = wide(node[i]);
-        let r = Row(wide16(row[i]));
+        let g = widen::byte(node[i]);
+        let r = Row(widen::pair(row[i]));
         if alone(state, tag, parent, marks, v, g, r) {
             node[i] = 0;
             row[i] = 0;

@@ -8,7 +8,11 @@ use Rattle.measures.specs.declared.Size.{Size}
 use Rattle.model.specs.Model.{Model}
 use Rattle.theorem.specs.Trace.{state, Handed, handed, Equals}
 use Rattle.layout.specs.Layout.{loaded, Fits}
-use Rattle.rowstore.specs.Host.{HostSnapshots, HostReads, HostWrites, HostDeletes, HostCounts}
+use Rattle.host_snapshot.specs.Snapshots.{HostSnapshots}
+use Rattle.host_read.specs.Reads.{HostReads}
+use Rattle.host_write.specs.Writes.{HostWrites}
+use Rattle.host_delete.specs.Deletes.{HostDeletes}
+use Rattle.host_count.specs.Counts.{HostCounts}
 use Rattle.hosting.specs.Calls.{HostCall, snapshot, read, write, delete, count}
 
 -- the row that a read hands out: what lies in the bytes lent for it, if it was accepted

@@ -40,11 +40,11 @@ roomTests z count = []
 
 module _ (z : Size) where
   unfoldable pub hostVerdict : Model → HostCall → Option Refusal
-  hostVerdict m c = refusal (roomTests z c ++ tests z (m .snapshots) (m .mark) (onRecords c))
+  hostVerdict m c = refusal (roomTests z c ++ tests z (m .snapshots) (m .rows .mark) (onRecords c))
 
   -- one call: its answer, and the model after it; a refusal changes nothing
   unfoldable pub hostAnswer : Model → HostCall → Answer
-  hostAnswer m c = unless (hostVerdict m c) refused (accepted z (m .snapshots) (m .mark) (m .bytes) (onRecords c))
+  hostAnswer m c = unless (hostVerdict m c) refused (accepted z (m .snapshots) (m .rows .mark) (m .rows .content) (onRecords c))
 
   unfoldable pub hostAfter : Model → HostCall → Model
   hostAfter m c = unless (hostVerdict m c) (λ r. m) (effect m (onRecords c))

@@ -14,7 +14,7 @@ use Rattle.model.specs.Call as on-records
 use Rattle.model.specs.Model.{Model, tests, opened, verdict, answer, after, answers}
 use Rattle.theorem.specs.Trace.{Handed, handedOf}
 use Rattle.theorem.specs.Cases.{Case, Meets, cases}
-use Rattle.rowstore.specs.Host.{openTests, HostOpens}
+use Rattle.host_open.specs.Opens.{openTests, HostOpens}
 use Rattle.hosting.specs.Calls.{HostCall, snapshot, read, write, delete, count, hostVerdict, hostAnswer, hostAfter, hostAnswers}
 use Rattle.hosting.specs.Called.{Host-trace}
 use Rattle.hosting.specs.Guarantee.{guarantee-opened}
@@ -36,7 +36,7 @@ module _ (z : Size) where
   unfolding Alike hostAnswer hostAfter hostVerdict answer after verdict
   alike m (on-records.snapshot source new) = (refl, refl)
   alike m (on-records.read tag r) =
-      let v = refusal-next bad-length (tests z (m .snapshots) (m .mark) (on-records.read tag r)) (not-no (eq-eqb (z .width) (z .width) refl)) in
+      let v = refusal-next bad-length (tests z (m .snapshots) (m .rows .mark) (on-records.read tag r)) (not-no (eq-eqb (z .width) (z .width) refl)) in
       (rw v, rw v)
   alike m (on-records.write tag r bs) = (refl, refl)
   alike m (on-records.delete tag) = (refl, refl)

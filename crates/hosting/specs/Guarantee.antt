@@ -15,8 +15,7 @@ use borrow.Author.Tests.{eq-eqb, ne-eqb, eqb-true, not-false}
 use Rattle.basics.specs.Decide.{not-yes, not-no}
 use Rattle.measures.specs.declared.Size.{Size}
 use Rattle.measures.specs.Measures.{Within}
-use Rattle.records.specs.Records.{Records, recordsOf}
-use Rattle.records.specs.Reading.{lives}
+use Rattle.records.specs.Records.{Records, recordsOf, lives}
 use Rattle.model.specs.Call.{Call}
 use Rattle.model.specs.Call as on-records
 use Rattle.answers.specs.Answers.{Refusal, bad-size, bad-length, bad-row, unknown-tag, row, refused, number}
@@ -28,7 +27,8 @@ use Rattle.edits.specs.Edits.{Whole, withTree}
 use Rattle.queries.specs.Queries.{Hands, readAnswer, rowOfTag}
 use Rattle.queries.specs.Queries as queries
 use Rattle.snapshots.specs.Taking.{snapshotVerdict, snapshotTree}
-use Rattle.writing.specs.Writing.{Held, held, writeVerdict, written}
+use Rattle.owning.specs.Owning.{Held, held}
+use Rattle.writing.specs.Writing.{writeVerdict, written}
 use Rattle.deleting.specs.Deleting.{Left, left, deleteVerdict, deleted}
 use Rattle.opening.specs.First.{first-sound}
 use Rattle.view.specs.View.{Store, started}
@@ -39,9 +39,10 @@ use Rattle.theorem.specs.Trace.{state, Handed, Call-ends, handedOf}
 use Rattle.theorem.specs.Trace as trace
 use Rattle.theorem.specs.Theorem.{one-call, runs-equal}
 use Rattle.laying.specs.Laws.{numbers-size}
-use Rattle.layout.specs.Layout.{entries, part, stored, loaded, Fits}
+use Rattle.layout.specs.Layout.{statesAt, parentsAt, tagsAt, entries, part, stored, loaded, Fits}
 use Rattle.layout.specs.Back.{Storable, loaded-stored, stored-fits}
-use Rattle.rowstore.specs.Host.{openTests, firstRecords, HostOpens, readTests}
+use Rattle.host_read.specs.Reads.{readTests}
+use Rattle.host_open.specs.Opens.{openTests, firstRecords, HostOpens}
 use Rattle.hosting.specs.Calls.{HostCall, read, hostVerdict, hostAnswer, hostAfter, hostAnswers, hostFinal}
 use Rattle.hosting.specs.Called.{rowIn, Host-ends, snapshot-ends, read-ends, write-ends, delete-ends, count-ends, Host-trace, over, then, Holds}
 
@@ -111,13 +112,13 @@ module _ (z : Size) (m : Model) where
   room-fits : (tag r n : ℕ) → n ≡ z .width → (hostAnswer z m (read tag r n) ≡ answer z m (on-records.read tag r)) × (hostAfter z m (read tag r n) ≡ after z m (on-records.read tag r))
   unfolding hostAnswer hostAfter hostVerdict answer after verdict
   room-fits tag r n e =
-      let v : hostVerdict z m (read tag r n) ≡ verdict z m (on-records.read tag r) = refusal-next bad-length (tests z (m .snapshots) (m .mark) (on-records.read tag r)) (not-no (eq-eqb n (z .width) e)) in
+      let v : hostVerdict z m (read tag r n) ≡ verdict z m (on-records.read tag r) = refusal-next bad-length (tests z (m .snapshots) (m .rows .mark) (on-records.read tag r)) (not-no (eq-eqb n (z .width) e)) in
       (rw v, rw v)
 
   room-wrong : (tag r n : ℕ) → n ≢ z .width → (hostAnswer z m (read tag r n) ≡ refused bad-length) × (hostAfter z m (read tag r n) ≡ m)
   unfolding hostAnswer hostAfter hostVerdict
   room-wrong tag r n e =
-      let v : hostVerdict z m (read tag r n) ≡ some bad-length = refusal-here bad-length (tests z (m .snapshots) (m .mark) (on-records.read tag r)) (not-yes (ne-eqb n (z .width) e)) in
+      let v : hostVerdict z m (read tag r n) ≡ some bad-length = refusal-here bad-length (tests z (m .snapshots) (m .rows .mark) (on-records.read tag r)) (not-yes (ne-eqb n (z .width) e)) in
       (rw v, rw v)
 
 -- what is to be shown of one call from C
@@ -227,7 +228,7 @@ guarantee-opened z b places b₀ places₀ o t = let (f, e, run) = opened-runs z
 
 loaded-whole : (b : List ℕ) → Fits b → Whole (loaded b .tree)
 unfolding loaded
-loaded-whole b f = record { state = long 6 128 (omega (arith, f .long)); tag = numbers-size _ 128 (long 262 256 (omega (arith, f .long))); parent = long 134 128 (omega (arith, f .long)) }
+loaded-whole b f = record { state = long statesAt 128 (omega (arith, f .long)); tag = numbers-size _ 128 (long tagsAt 256 (omega (arith, f .long))); parent = long parentsAt 128 (omega (arith, f .long)) }
   where
     long : (from n : ℕ) → from + n ≤ length b → length (part from n b) ≡ n
     long from n l = length-take-le n (drop from b) (omega (arith, length-drop from b))

@@ -16,11 +16,21 @@ pub record Lays (before : List ℕ) (at : ℕ) (bytes after : List ℕ) (to : �
   pub ends : to ≡ at + length bytes
   pub inside : to ≤ length after
 
+-- two bytes for each number of a list
+unfoldable pub twos : (ℕ → ℕ) → (ℕ → ℕ) → List ℕ → List ℕ
+twos f g [] = []
+twos f g (x ∷ xs) = f x ∷ g x ∷ twos f g xs
+
 -- 16-bit numbers, each as two bytes, the high one first
 
+abbrev pub highByte : ℕ → ℕ
+highByte x = x / 256
+
+abbrev pub lowByte : ℕ → ℕ
+lowByte x = x % 256
+
 unfoldable pub pairs : List ℕ → List ℕ
-pairs [] = []
-pairs (x ∷ xs) = x / 256 ∷ x % 256 ∷ pairs xs
+pairs xs = twos highByte lowByte xs
 
 -- and back; a last byte that is alone is left out
 unfoldable pub numbers : List ℕ → List ℕ

@@ -8,7 +8,7 @@ use native.Mathlib.Omega.{arith}
 use lib.ListN.{length, take, drop, set, length-append, length-drop, length-set, take-append-drop}
 use lib.Seq.{length-take-le, take-at, drop-at, drop-drop, set-split, take-suc, take-all, ext-getD, getD-set-same, getD-set-other}
 use Rattle.basics.specs.Decide.{at}
-use Rattle.laying.specs.Laid.{laid, Lays, pairs, numbers, pairAt}
+use Rattle.laying.specs.Laid.{laid, Lays, twos, highByte, lowByte, pairs, numbers, pairAt}
 
 module _ (b : List ℕ) (p : ℕ) (t : List ℕ) (m : p + length t ≤ length b) where
   -- up to the end of what was laid
@@ -67,19 +67,61 @@ lays-then {b} {p} {t} {u} l k = record {
   inside = k .inside;
 }
 
+pub lays-two : {b : List ℕ} {p x y : ℕ} {a c : List ℕ} {to end : ℕ} → Lays b p (x ∷ []) a to → Lays a to (y ∷ []) c end → Lays b p (x ∷ y ∷ []) c end
+lays-two l k = lays-then l k
+
+pub one-room : {b : List ℕ} {p x : ℕ} {a : List ℕ} {to : ℕ} → Lays b p (x ∷ []) a to → (to ≡ p + 1) × (length a ≡ length b)
+one-room l = (l .ends, l .size)
+
 -- the same bytes, said otherwise
 pub lays-as : {b : List ℕ} {p : ℕ} {t u a : List ℕ} {to : ℕ} → t ≡ u → Lays b p t a to → Lays b p u a to
 lays-as e l = rw (sym e) l
 
-pub one-room : {b : List ℕ} {p x : ℕ} {a : List ℕ} {to : ℕ} → Lays b p (x ∷ []) a to → (to ≡ p + 1) × (length a ≡ length b)
-one-room l = (l .ends, l .size)
+-- Two bytes for each number of a list, and the loop that has laid them for the first i
+
+module _ (f g : ℕ → ℕ) where
+  pub twos-size : (xs : List ℕ) → length (twos f g xs) ≡ 2 * length xs
+  unfolding twos
+  twos-size [] = refl
+  twos-size (x ∷ xs) = omega (arith, twos-size xs)
+
+  twos-append : (xs ys : List ℕ) → twos f g (xs ++ ys) ≡ twos f g xs ++ twos f g ys
+  unfolding twos
+  twos-append [] ys = refl
+  twos-append (x ∷ xs) ys = ap (λ (r : List ℕ). f x ∷ g x ∷ r) (twos-append xs ys)
+
+  pub record Laying (xs before : List ℕ) (p : ℕ) (after : List ℕ) (to i : ℕ) : Type 0 where
+    pub most : i ≤ length xs
+    pub fits : p + 2 * length xs ≤ length before
+    pub lays : Lays before p (twos f g (take i xs)) after to
+
+  pub laying-start : (xs b : List ℕ) (p : ℕ) → p + 2 * length xs ≤ length b → Laying xs b p b p 0
+  unfolding twos
+  laying-start xs b p l = record { most = omega arith; fits = l; lays = lays-none b p (omega arith) }
+
+  module _ (xs : List ℕ) (i : ℕ) {b : List ℕ} {p : ℕ} {a₁ : List ℕ} {to₁ : ℕ} (h : Laying xs b p a₁ to₁ i) where
+    -- there is room for two more
+    pub laying-room : i < length xs → to₁ + 2 ≤ length a₁
+    laying-room l = omega (arith, h .lays .ends, h .lays .size, h .fits, twos-size (take i xs), length-take-le i xs (h .most))
+
+    pub laying-next : {x y : ℕ} {a : List ℕ} {to : ℕ} → i < length xs → x ≡ f (at xs i) → y ≡ g (at xs i) → Lays a₁ to₁ (x ∷ y ∷ []) a to → Laying xs b p a to (i + 1)
+    unfolding twos
+    laying-next l e k j =
+        let one : i + 1 ≡ suc i = omega arith in
+        record {
+          most = omega arith;
+          fits = h .fits;
+          lays = lays-as (rw (one, take-suc xs i 0 l, twos-append (take i xs) (at xs i ∷ []), e, k)) (lays-then (h .lays) j);
+        }
+
+    pub laying-all : length xs ≤ i → Lays b p (twos f g xs) a₁ to₁
+    laying-all l = lays-as (ap (twos f g) (take-all i xs l)) (h .lays)
 
 -- 16-bit numbers
 
 pub pairs-size : (xs : List ℕ) → length (pairs xs) ≡ 2 * length xs
 unfolding pairs
-pairs-size [] = refl
-pairs-size (x ∷ xs) = omega (arith, pairs-size xs)
+pairs-size xs = twos-size highByte lowByte xs
 
 pub numbers-size : (bs : List ℕ) (n : ℕ) → length bs ≡ 2 * n → length (numbers bs) ≡ n
 unfolding numbers
@@ -101,12 +143,12 @@ numbers-at (h ∷ m ∷ bs) (suc k) l =
 
 -- numbers that are laid are read back, and so are bytes
 pub numbers-pairs : (xs : List ℕ) → numbers (pairs xs) ≡ xs
-unfolding numbers pairs
+unfolding numbers pairs twos
 numbers-pairs [] = refl
 numbers-pairs (x ∷ xs) = ap₂ _∷_ (omega arith) (numbers-pairs xs)
 
 pub pairs-numbers : (bs : List ℕ) (n : ℕ) → length bs ≡ 2 * n → ((i : ℕ) → at bs i < 256) → pairs (numbers bs) ≡ bs
-unfolding numbers pairs
+unfolding numbers pairs twos
 pairs-numbers [] n e f = refl
 pairs-numbers (h ∷ []) n e f = absurd (omega (arith, e))
 pairs-numbers (h ∷ l ∷ bs) zero e f = absurd (omega (arith, e))
@@ -114,31 +156,7 @@ pairs-numbers (h ∷ l ∷ bs) (suc n) e f =
     let low : l < 256 = f 1 in
     ap₂ _∷_ (omega (arith, low)) (ap₂ _∷_ (omega (arith, low)) (pairs-numbers bs n (omega (arith, e)) (λ i. f (suc (suc i)))))
 
--- The loops: so many numbers have been laid, and loaded
-
-pub pairs-start : (b : List ℕ) (p : ℕ) → p ≤ length b → Lays b p (pairs []) b p
-unfolding pairs
-pairs-start b p m = lays-none b p m
-
-pairs-append : (xs ys : List ℕ) → pairs (xs ++ ys) ≡ pairs xs ++ pairs ys
-unfolding pairs
-pairs-append [] ys = refl
-pairs-append (x ∷ xs) ys = ap (λ (r : List ℕ). x / 256 ∷ x % 256 ∷ r) (pairs-append xs ys)
-
-pub pairs-next : (xs : List ℕ) (i : ℕ) {b : List ℕ} {p x y : ℕ} {a₁ a₂ a : List ℕ} {to₁ to₂ to : ℕ} → i < length xs → x ≡ at xs i / 256 → y ≡ at xs i % 256
-    → Lays b p (pairs (take i xs)) a₁ to₁ → Lays a₁ to₁ (x ∷ []) a₂ to₂ → Lays a₂ to₂ (y ∷ []) a to → Lays b p (pairs (take (i + 1) xs)) a to
-unfolding pairs
-pairs-next xs i l e f h k j =
-    let one : i + 1 ≡ suc i = omega arith in
-    lays-as
-    (rw (one, take-suc xs i 0 l, pairs-append (take i xs) (at xs i ∷ []), e, f))
-    (lays-then h (lays-then k j))
-
-pub pairs-at : (xs : List ℕ) (i : ℕ) {b : List ℕ} {p : ℕ} {a : List ℕ} {to : ℕ} → i ≤ length xs → Lays b p (pairs (take i xs)) a to → (to ≡ p + 2 * i) × (length a ≡ length b)
-pairs-at xs i m l = (omega (arith, l .ends, pairs-size (take i xs), length-take-le i xs m), l .size)
-
-pub pairs-all : (xs : List ℕ) (i : ℕ) {b : List ℕ} {p : ℕ} {a : List ℕ} {to : ℕ} → length xs ≤ i → Lays b p (pairs (take i xs)) a to → Lays b p (pairs xs) a to
-pairs-all xs i l h = lays-as (ap pairs (take-all i xs l)) h
+-- The loop that has loaded so many
 
 -- to has the length that it should, and its first i numbers are those of the bytes
 pub record Loading (bytes to : List ℕ) (i : ℕ) : Type 0 where

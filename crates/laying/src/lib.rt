@@ -14,6 +14,15 @@ pub fn put(out: &mut [u8], at: usize, byte: u8) -> usize
     at + 1
 }
 
+// Two bytes.
+pub fn two(out: &mut [u8], at: usize, a: u8, b: u8) -> usize
+    requires { ⌜ at + 2 ≤ length (now out) ⌝ }
+    ensures { λ to. ⌜ Lays (now (out .entry)) at (a ∷ b ∷ []) (now (out .exit)) to ⌝ }
+{
+    let next = put(out, at, a);
+    put(out, next, b)
+}
+
 // Bytes as they are.
 pub fn lay(out: &mut [u8], at: usize, bytes: &[u8]) -> usize
     requires { ⌜ at + length (now bytes) ≤ length (now out) ⌝ }
@@ -44,8 +53,7 @@ pub fn lay_numbers(out: &mut [u8], at: usize, xs: &[u16]) -> usize
     let mut to = at;
     let mut i: usize = 0;
     while i < xs.len() {
-        let next = put(out, to, high(xs[i]));
-        to = put(out, next, low(xs[i]));
+        to = two(out, to, high(xs[i]), low(xs[i]));
         i += 1;
     }
     to

@@ -7,9 +7,9 @@ use lib.ListN.{length, drop, length-append}
 use lib.Seq.{take-all, take-at, drop-at, drop-drop}
 use Rattle.measures.specs.Measures.{Within}
 use Rattle.records.specs.Records.{Records}
-use Rattle.laying.specs.Laid.{pairs}
+use Rattle.laying.specs.Laid.{twos, pairs}
 use Rattle.laying.specs.Laws.{pairs-size, numbers-pairs}
-use Rattle.layout.specs.Layout.{entries, recordsSize, treeBytes, tableBytes, stored, sizeAt, part, loaded, Fits}
+use Rattle.layout.specs.Layout.{statesAt, parentsAt, tagsAt, tableAt, entries, recordsSize, treeBytes, tableBytes, stored, sizeAt, part, loaded, Fits}
 use Rattle.layout.specs.Laws.{tree-size, table-size, size-same}
 
 -- records of the right lengths
@@ -22,7 +22,7 @@ pub record Storable (z : Records) : Type 0 where
   pub rows : length (z .row) ≡ entries (z .size)
 
 pub stored-size : (z : Records) → Storable z → length (stored z) ≡ recordsSize (z .size)
-unfolding stored pairs
+unfolding stored pairs twos
 stored-size z s = omega (
   arith,
   length-append (treeBytes (z .tree)) (tableBytes (z .node) (z .row)),
@@ -33,7 +33,7 @@ stored-size z s = omega (
 )
 
 pub stored-measures : (z : Records) → sizeAt (stored z) ≡ z .size
-unfolding stored pairs
+unfolding stored pairs twos
 stored-measures z = size-same (omega arith) (omega arith) (omega arith)
 
 -- where a part begins it is read, and behind it comes the rest
@@ -41,17 +41,17 @@ read : (b p rest : List ℕ) (from n : ℕ) → drop from b ≡ p ++ rest → le
 read b p rest from n e l = (rw e (take-at p rest n l), sym (drop-drop n from b) ∙ rw e (drop-at p rest n l))
 
 -- the parts behind the measures, one after the other
-behind : (z : Records) → drop 6 (stored z) ≡ z .tree .state ++ (z .tree .parent ++ (pairs (z .tree .tag) ++ (z .node ++ pairs (z .row))))
-unfolding stored treeBytes tableBytes pairs
+behind : (z : Records) → drop statesAt (stored z) ≡ z .tree .state ++ (z .tree .parent ++ (pairs (z .tree .tag) ++ (z .node ++ pairs (z .row))))
+unfolding stored treeBytes tableBytes pairs twos
 behind z = rw (append-assoc, append-assoc)
 
 pub loaded-stored : (z : Records) → Storable z → loaded (stored z) ≡ z
 unfolding loaded
 loaded-stored z s =
-    let state = read (stored z) (z .tree .state) _ 6 128 (behind z) (s .states) in
-    let parent = read (stored z) (z .tree .parent) _ 134 128 (state .1) (s .parents) in
-    let tag = read (stored z) (pairs (z .tree .tag)) _ 262 256 (parent .1) (omega (arith, pairs-size (z .tree .tag), s .tags)) in
-    let node = read (stored z) (z .node) _ 518 (entries (z .size)) (tag .1) (s .nodes) in
+    let state = read (stored z) (z .tree .state) _ statesAt 128 (behind z) (s .states) in
+    let parent = read (stored z) (z .tree .parent) _ parentsAt 128 (state .1) (s .parents) in
+    let tag = read (stored z) (pairs (z .tree .tag)) _ tagsAt 256 (parent .1) (omega (arith, pairs-size (z .tree .tag), s .tags)) in
+    let node = read (stored z) (z .node) _ tableAt (entries (z .size)) (tag .1) (s .nodes) in
     let row = take-all (2 * entries (z .size)) (pairs (z .row)) (omega (arith, pairs-size (z .row), s .rows)) in
     rw (
       stored-measures z,

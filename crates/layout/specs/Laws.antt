@@ -5,11 +5,12 @@ use Prim.Native.Nat.{ℕ, _+_, _-_, _*_}
 use native.Mathlib.Omega.{arith}
 use lib.ListN.{length, take, drop, length-append, drop-of-length-le}
 use Rattle.measures.specs.declared.Size.{Size}
-use Rattle.records.specs.declared.Tree.{Tree}
-use Rattle.records.specs.Records.{Records, recordsOf, treeOf}
+use Rattle.trees.specs.declared.Tree.{Tree}
+use Rattle.trees.specs.Trees.{treeOf}
+use Rattle.records.specs.Records.{Records, recordsOf}
 use Rattle.laying.specs.Laid.{laid, Lays, pairs, numbers}
 use Rattle.laying.specs.Laws.{lays-then, lays-as, pairs-size}
-use Rattle.layout.specs.Layout.{entries, recordsSize, treeBytes, tableBytes, stored, sizeAt, loaded}
+use Rattle.layout.specs.Layout.{tableAt, entries, recordsSize, treeBytes, tableBytes, stored, sizeAt, treeAt, loaded}
 
 -- Lengths
 
@@ -54,11 +55,15 @@ module _ (z : Records) where
 pub size-same : {a b c a′ b′ c′ : ℕ} → a ≡ a′ → b ≡ b′ → c ≡ c′ → _≡_ {A = Size} (record { rows = a; width = b; places = c }) (record { rows = a′; width = b′; places = c′ })
 size-same p q r = λ i. record { rows = p i; width = q i; places = r i }
 
-pub load-same : (b : List ℕ) {n : ℕ} {state parent tag node row : List ℕ} → n ≡ entries (sizeAt b) → length b ≡ recordsSize (sizeAt b)
-    → state ≡ take 128 (drop 6 b) → parent ≡ take 128 (drop 134 b) → tag ≡ numbers (take 256 (drop 262 b)) → node ≡ take ((518 + n) - 518) (drop 518 b) → row ≡ numbers (take (length b - (518 + n)) (drop (518 + n) b))
-    → recordsOf (sizeAt b) (treeOf state tag parent) node row ≡ loaded b
+pub tree-same : {s p g s′ p′ g′ : List ℕ} → s ≡ s′ → p ≡ p′ → g ≡ g′ → treeOf s g p ≡ treeOf s′ g′ p′
+tree-same e f h = λ i. treeOf (e i) (h i) (f i)
+
+-- the table, where the tree is read by itself
+pub load-same : (b : List ℕ) {n : ℕ} {t : Tree} {node row : List ℕ} → n ≡ entries (sizeAt b) → length b ≡ recordsSize (sizeAt b)
+    → t ≡ treeAt b → node ≡ take ((tableAt + n) - tableAt) (drop tableAt b) → row ≡ numbers (take (length b - (tableAt + n)) (drop (tableAt + n) b))
+    → recordsOf (sizeAt b) t node row ≡ loaded b
 unfolding loaded
-load-same b {n} e l s p t d r =
-    let m : (518 + n) - 518 ≡ n = omega arith in
-    let k : length b - (518 + entries (sizeAt b)) ≡ 2 * entries (sizeAt b) = omega (arith, l) in
-    rw (s, p, t, d, r, m, e, k)
+load-same b {n} e l t d r =
+    let m : (tableAt + n) - tableAt ≡ n = omega arith in
+    let k : length b - (tableAt + entries (sizeAt b)) ≡ 2 * entries (sizeAt b) = omega (arith, l) in
+    rw (t, d, r, m, e, k)

@@ -8,9 +8,23 @@ use Prim.Native.Nat.{ℕ, _+_, _-_, _*_}
 use lib.ListN.{length, take, drop}
 use Rattle.measures.specs.declared.Size.{Size}
 use Rattle.measures.specs.Measures.{Within}
-use Rattle.records.specs.declared.Tree.{Tree}
-use Rattle.records.specs.Records.{Records, recordsOf, treeOf}
+use Rattle.trees.specs.declared.Tree.{Tree}
+use Rattle.records.specs.Records.{Records, recordsOf}
+use Rattle.trees.specs.Trees.{treeOf}
 use Rattle.laying.specs.Laid.{pairs, numbers, pairAt}
+
+-- where each part begins
+abbrev pub statesAt : ℕ
+statesAt = 6
+
+abbrev pub parentsAt : ℕ
+parentsAt = statesAt + 128
+
+abbrev pub tagsAt : ℕ
+tagsAt = parentsAt + 128
+
+abbrev pub tableAt : ℕ
+tableAt = tagsAt + 256
 
 -- how many entries the table of a store has
 abbrev pub entries : Size → ℕ
@@ -18,7 +32,7 @@ entries size = size .places - size .rows
 
 -- how many bytes its records have
 abbrev pub recordsSize : Size → ℕ
-recordsSize size = 518 + 3 * entries size
+recordsSize size = tableAt + 3 * entries size
 
 unfoldable pub treeBytes : Tree → List ℕ
 treeBytes t = t .state ++ (t .parent ++ pairs (t .tag))
@@ -37,9 +51,11 @@ sizeAt b = record { rows = pairAt b 0; width = pairAt b 2; places = pairAt b 4 }
 abbrev pub part : ℕ → ℕ → List ℕ → List ℕ
 part from n b = take n (drop from b)
 
+abbrev pub treeAt : List ℕ → Tree
+treeAt b = treeOf (part statesAt 128 b) (numbers (part tagsAt 256 b)) (part parentsAt 128 b)
+
 unfoldable pub loaded : List ℕ → Records
-loaded b = recordsOf (sizeAt b) (treeOf (part 6 128 b) (numbers (part 262 256 b)) (part 134 128 b))
-    (part 518 (entries (sizeAt b)) b) (numbers (part (518 + entries (sizeAt b)) (2 * entries (sizeAt b)) b))
+loaded b = recordsOf (sizeAt b) (treeAt b) (part tableAt (entries (sizeAt b)) b) (numbers (part (tableAt + entries (sizeAt b)) (2 * entries (sizeAt b)) b))
 
 -- the bytes are as many as their measures say
 pub record Fits (b : List ℕ) : Type 0 where

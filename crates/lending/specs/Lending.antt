@@ -1,7 +1,7 @@
 -- The tree with one node changed. Definitions only. Assumes nothing.
 use lib.ListN.{set}
-use Rattle.records.specs.declared.Tree.{Tree}
-use Rattle.records.specs.Records.{treeOf}
+use Rattle.trees.specs.declared.Tree.{Tree}
+use Rattle.trees.specs.Trees.{treeOf}
 use Rattle.lending.specs.declared.Node.{Node}
 
 -- a node has the state, tag and parent that it is to hold

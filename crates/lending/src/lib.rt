@@ -4,7 +4,7 @@ ghost use Prim.Native.Nat.{_<_};
 ghost use Rattle.edits.specs.Edits.{hung};
 ghost use Rattle.removal.specs.Removal.{emptied};
 ghost use Rattle.lending.specs.Lending.{filled};
-use records::Tree;
+use trees::Tree;
 
 // A node, and what it is to hold.
 pub struct Node {

@@ -7,7 +7,8 @@ use lib.ListN.{replicate}
 use Rattle.measures.specs.declared.Size.{Size}
 use Rattle.model.specs.Call.{Call, snapshot, read, write, delete, count}
 use Rattle.answers.specs.Answers.{bad-size, bad-length, done, row, counts, refused, bad-row, zero-tag, origin-tag, unknown-tag, tag-alive, snapshots-full, places-full}
-use Rattle.model.specs.Model.{any, different, alive, snapshotsAlive, shared, placesUsed, tests, accepted, adopt, put, without, effect, opened, verdict, answer, after, answers, final}
+use Rattle.copies.specs.Copies.{any, different, alive, snapshotsAlive, without, shared, placesUsed, adopt, put}
+use Rattle.model.specs.Model.{tests, accepted, effect, opened, verdict, answer, after, answers, final}
 use Rattle.answers.specs.Tests.{refusal, inMeasure, openTests}
 
 -- L = 4, B = 8, P = 6

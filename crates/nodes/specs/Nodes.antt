@@ -9,8 +9,8 @@ use borrow.Author.Tests.{not-true, not-false, eqb-true}
 use Rattle.basics.specs.Decide.{at, not-yes, not-no}
 use Rattle.basics.specs.Count.{count, first}
 use Rattle.basics.specs.CountLaws.{count-none, count-no, count-yes, first-some, first-none, first-yes, first-no, first-more, first-start}
-use Rattle.records.specs.declared.Tree.{Tree}
-use Rattle.records.specs.Records.{Child, isUsed, nodesUsed, isChild}
+use Rattle.trees.specs.declared.Tree.{Tree}
+use Rattle.trees.specs.Trees.{Child, isUsed, nodesUsed, isChild}
 use Rattle.tree.specs.Nodes.{used-yes, used-no, child-yes, child-of}
 use Rattle.bound.specs.Bound.{empty-node}
 use Rattle.edits.specs.Edits.{EmptyNode}

@@ -2,12 +2,12 @@
 ghost use mathlib.Core.Path.{_≡_};
 ghost use mathlib.Core.Option.{some};
 ghost use Prim.Native.Nat.{_<_};
-ghost use Rattle.records.specs.Records.{treeOf, nodesUsed, children};
+ghost use Rattle.trees.specs.Trees.{treeOf, nodesUsed, children};
 ghost use Rattle.tree.specs.Rules.{foundOf};
 ghost use Rattle.edits.specs.Edits.{grown, hung, split};
 ghost use Rattle.nodes.specs.Nodes.{emptyNode, firstChild};
-use records::Tree;
 use tree::Found;
+use trees::Tree;
 
 // The first empty node, of a tree that has one.
 pub fn empty_node<'a>(state: &'a [u8; 128], tag: &'a [u16; 128], parent: &'a [u8; 128]) -> usize
@@ -24,12 +24,6 @@ pub fn empty_node<'a>(state: &'a [u8; 128], tag: &'a [u16; 128], parent: &'a [u8
     n
 }
 
-fn wide(x: u8) -> usize
-    ensures { λ r. ⌜ r ≡ x ⌝ }
-{
-    x as usize
-}
-
 // The first child of a node.
 pub fn child<'a>(
     state: &'a [u8; 128],
@@ -42,7 +36,7 @@ pub fn child<'a>(
     let mut n: usize = 1;
     while n < 128 {
         if state[n] != 0 {
-            if wide(parent[n]) == p {
+            if widen::byte(parent[n]) == p {
                 return Found::At(n);
             }
         }
@@ -101,7 +95,7 @@ pub fn children<'a>(
     let mut n: usize = 1;
     while n < 128 {
         if state[n] != 0 {
-            if wide(parent[n]) == p {
+            if widen::byte(parent[n]) == p {
                 sum += 1;
             }
         }

@@ -11,8 +11,10 @@ use Rattle.basics.specs.CountLaws.{count-one}
 use borrow.Author.Tests.{eqb-true}
 use Rattle.measures.specs.declared.Size.{Size}
 use Rattle.measures.specs.Measures.{Within}
-use Rattle.records.specs.Records.{recordsOf, isSnapshot, snapshots}
-use Rattle.records.specs.Sound.{States, Tagged, Sound}
+use Rattle.records.specs.Records.{recordsOf}
+use Rattle.trees.specs.Trees.{isSnapshot, snapshots}
+use Rattle.trees.specs.Rules.{States, Tagged}
+use Rattle.records.specs.Sound.{Sound}
 use Rattle.opening.specs.Opening.{firstTree}
 use mathlib.Core.Bool.{not}
 use lib.Dec.{eqb}

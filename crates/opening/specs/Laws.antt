@@ -14,7 +14,7 @@ use borrow.Author.Tests.{eq-eqb, ne-eqb}
 use Rattle.basics.specs.Decide.{at, not-yes, not-no}
 use Rattle.measures.specs.declared.Size.{Size}
 use Rattle.measures.specs.Measures.{Within}
-use Rattle.records.specs.declared.Tree.{Tree}
+use Rattle.trees.specs.declared.Tree.{Tree}
 use Rattle.answers.specs.Answers.{Refusal, bad-size, bad-length, number}
 use Rattle.answers.specs.Tests.{Tests, refusal, openTests, inMeasure}
 use Rattle.answers.specs.Laws.{refusal-here, refusal-next, refusal-none, in-measure, measure-in}

@@ -5,8 +5,8 @@ use mathlib.Core.Option.{Option}
 use Prim.Native.Nat.{ℕ}
 use lib.ListN.{length, replicate, set}
 use Rattle.measures.specs.declared.Size.{Size}
-use Rattle.records.specs.declared.Tree.{Tree}
-use Rattle.records.specs.Records.{treeOf}
+use Rattle.trees.specs.declared.Tree.{Tree}
+use Rattle.trees.specs.Trees.{treeOf}
 use Rattle.answers.specs.Answers.{Refusal, done, refused, numberOf}
 use Rattle.answers.specs.Tests.{refusal, openTests, unless}
 

@@ -3,7 +3,7 @@ ghost use mathlib.Core.Path.{_≡_};
 ghost use lib.ListN.{length, replicate};
 ghost use Rattle.opening.specs.Opening.{firstTree, noTree, Opening};
 use measures::Size;
-use records::Tree;
+use trees::Tree;
 
 // The answer, and the tree of the store: node 0 alone, or no node at all where opening was refused.
 pub struct Opened {

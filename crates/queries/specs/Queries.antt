@@ -7,8 +7,8 @@ use lib.Dec.{eqb, leb}
 use lib.ListN.{length}
 use Rattle.measures.specs.Measures.{beginsAt, bytesAt}
 use Rattle.placing.specs.Placing.{Spot, Lies}
-use Rattle.records.specs.Records.{Records, table, snapshots, used}
-use Rattle.records.specs.Reading.{lives, tagPlace}
+use Rattle.records.specs.Records.{Records, table, lives, tagPlace}
+use Rattle.trees.specs.Trees.{snapshots, used}
 use Rattle.soundness.specs.Judged.{Judged}
 use Rattle.answers.specs.Answers.{bad-length, bad-row, unknown-tag, unsound, Answer, row, counts, refused, numberOf, rowOf, usedOf, snapshotsOf}
 use Rattle.answers.specs.Tests.{Tests, refusal, unless}

@@ -6,8 +6,8 @@ ghost use Rattle.placing.specs.Placing.{Lies};
 ghost use Rattle.queries.specs.Queries.{CountEnds, ReadEnds, ReadPart};
 use measures::Row;
 use measures::Size;
-use records::Tree;
 use tree::Found;
+use trees::Tree;
 
 // An answer, with places in use and snapshots alive.
 pub struct Counts {

@@ -10,9 +10,9 @@ use Rattle.basics.specs.Decide.{at, not-yes, not-no}
 use Rattle.basics.specs.Count.{count, first}
 use Rattle.basics.specs.CountLaws.{first-yes, first-no, first-more, count-yes, count-no}
 use borrow.Author.Tests.{eq-eqb, ne-eqb}
-use Rattle.records.specs.declared.Tree.{Tree}
-use Rattle.records.specs.Records.{Table, InUse, up, taken}
-use Rattle.records.specs.Reading.{owns, entry, climb, place}
+use Rattle.trees.specs.declared.Tree.{Tree}
+use Rattle.trees.specs.Trees.{Table, InUse, up, taken}
+use Rattle.trees.specs.Reading.{owns, entry, climb, place}
 use Rattle.tree.specs.Rules.{Climbs}
 use Rattle.reading.specs.Reads.{owns-yes, owns-of, climb-root, climb-own, climb-up}
 

@@ -12,10 +12,10 @@ use lib.ListN.{length}
 use borrow.Author.Tests.{eq-eqb, ne-eqb, eqb-true}
 use Rattle.basics.specs.Decide.{at, and-yes, both}
 use Rattle.basics.specs.CountLaws.{first-some, first-none, first-only}
-use Rattle.records.specs.declared.Tree.{Tree}
-use Rattle.records.specs.Records.{Table, InUse, up, ancestor}
-use Rattle.records.specs.Reading.{Owns, Reads, origin, own, above, owns, entry, placeOr, climb, place}
-use Rattle.records.specs.Sound.{Linked, Excepting}
+use Rattle.trees.specs.declared.Tree.{Tree}
+use Rattle.trees.specs.Trees.{Table, InUse, up, ancestor}
+use Rattle.trees.specs.Reading.{Owns, Reads, origin, own, above, owns, entry, placeOr, climb, place}
+use Rattle.trees.specs.Rules.{Linked, Excepting}
 use Rattle.tree.specs.Going.{ancestor-zero, near}
 
 -- A node's own row

@@ -4,9 +4,10 @@ use mathlib.Core.Logic.{_↔_, inl, inr}
 use Prim.Native.Nat.{ℕ, _+_, _<_}
 use native.Mathlib.Omega.{arith}
 use Rattle.basics.specs.Decide.{at}
-use Rattle.records.specs.declared.Tree.{Tree}
-use Rattle.records.specs.Records.{Table, Records, table, InUse, Alive, PlaceUsed}
-use Rattle.records.specs.Reading.{Reads, origin, own, above, place}
+use Rattle.trees.specs.declared.Tree.{Tree}
+use Rattle.trees.specs.Trees.{Table, InUse, Alive, PlaceUsed}
+use Rattle.records.specs.Records.{Records, table}
+use Rattle.trees.specs.Reading.{Reads, origin, own, above, place}
 use Rattle.records.specs.Sound.{Sound}
 use Rattle.reading.specs.Reads.{place-reads, reads-place, place-root}
 

@@ -3,27 +3,19 @@ ghost use mathlib.Core.Path.{_≡_};
 ghost use Prim.Native.Nat.{_+_, _≤_, _<_};
 ghost use lib.ListN.{length};
 ghost use Rattle.basics.specs.Decide.{Decides};
-ghost use Rattle.records.specs.Records.{treeOf, tableOf, used};
-ghost use Rattle.records.specs.Reading.{entry, place};
+ghost use Rattle.trees.specs.Trees.{treeOf, tableOf, used};
+ghost use Rattle.trees.specs.Reading.{entry, place};
 ghost use Rattle.tree.specs.Rules.{foundOf};
 ghost use Rattle.reading.specs.Lookup.{Looking};
 use measures::Place;
 use measures::Row;
 use tree::Found;
 
-// A byte as an index, and a 16-bit number.
-fn wide(x: u8) -> usize
-    ensures { λ r. ⌜ r ≡ x ⌝ }
-{
-    x as usize
-}
-
 // Is this the row?
 fn is_row(x: u16, r: Row) -> bool
     ensures { λ b. ⌜ Decides b (x ≡ r .0) ⌝ }
 {
-    let w = x as usize;
-    if w == r.0 {
+    if widen::pair(x) == r.0 {
         return true;
     }
     false
@@ -36,7 +28,7 @@ fn own_entry<'a>(rows: usize, node: &'a [u8], row: &'a [u16], n: usize, r: Row) 
 {
     let mut i: usize = 0;
     while i < node.len() {
-        if wide(node[i]) == n {
+        if widen::byte(node[i]) == n {
             if is_row(row[i], r) {
                 return Found::At(i);
             }
@@ -74,7 +66,7 @@ pub fn lookup<'a>(
         if m == 0 {
             return measures::home(r);
         }
-        let above = wide(parent[m]);
+        let above = widen::byte(parent[m]);
         let found = own_entry(rows, node, row, m, r);
         if let Found::At(i) = found {
             return held(rows, i);

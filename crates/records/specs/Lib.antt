@@ -1,4 +1,2 @@
 pub mod Records
-pub mod Reading
 pub mod Sound
-pub mod Drawn

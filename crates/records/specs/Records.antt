@@ -1,39 +1,13 @@
--- The records of a store (SPEC 4). Definitions only. Assumes nothing.
---
---   tree (state, tag, parent of 128 nodes)         table (a node and a row for each snapshot place)
---
---           0  alive, tag 0: the origin              place    L    L+1   L+2   L+3  ..  P-1
---           |                                        node     1     0     3     4        0
---           1  ghost                                 row      2     0     2     0        0
---          / \                                                |   free    |     |
---         3   4  alive, tags 7 and 9                          |           |     |
---         |                                                   |           |     node 4's own row 0
---         2  alive, tag 8                                     |           node 3's own row 2
---                                                             node 1's own row 2
---   places (P stretches of B bytes)
---
---     | 0 | 1 | 2 | .. | L-1 |  L  | L+1 | L+2 | L+3 | .. | P-1 |
---      the origin's rows      |  snapshot places: one for each entry of the table
---
---   Row 2 of tag 7 and of tag 8 is in place L+2, row 2 of tag 9 in place L, row 2 of the origin in place 2.
-use mathlib.Core.Path.{_≡_}
-use mathlib.Core.Logic.{_≢_, _⊎_}
-use mathlib.Core.Bool.{Bool, not, _&&_}
+-- The records of a store (SPEC 4): the measures, the tree and the two halves of the table; and who lives and reads what, by tag. A further field of the
+-- records stands here, beside the tree, and what is said of trees and tables does not move. Definitions only. Assumes nothing.
+use mathlib.Core.Bool.{Bool, true, false}
 use mathlib.Core.List.{List}
-use mathlib.Core.Option.{Option}
-use Prim.Native.Nat.{ℕ, zero, suc, _+_, _<_}
-use lib.Dec.{eqb}
-use lib.ListN.{length}
-use Rattle.basics.specs.Decide.{at}
-use Rattle.basics.specs.Count.{count, first}
+use mathlib.Core.Option.{Option, none, some}
+use Prim.Native.Nat.{ℕ}
 use Rattle.measures.specs.declared.Size.{Size}
-use Rattle.records.specs.declared.Tree.{Tree}
-
--- The exceptions, as document 01 calls them (SPEC 4). Entry i stands for place rows + i: it has a node, 0 if the place is free, and a row.
-pub record Table : Type 0 where
-  pub rows : ℕ
-  pub node : List ℕ
-  pub row : List ℕ
+use Rattle.trees.specs.declared.Tree.{Tree}
+use Rattle.trees.specs.Trees.{Table, tableOf, version}
+use Rattle.trees.specs.Reading.{place}
 
 pub record Records : Type 0 where
   pub size : Size
@@ -42,86 +16,24 @@ pub record Records : Type 0 where
   pub row : List ℕ
 
 -- from the parts that a call is lent
-abbrev pub treeOf : List ℕ → List ℕ → List ℕ → Tree
-treeOf state tag parent = record { state = state; tag = tag; parent = parent }
-
-abbrev pub tableOf : ℕ → List ℕ → List ℕ → Table
-tableOf rows node row = record { rows = rows; node = node; row = row }
-
 abbrev pub recordsOf : Size → Tree → List ℕ → List ℕ → Records
 recordsOf size tree node row = record { size = size; tree = tree; node = node; row = row }
 
 abbrev pub table : Records → Table
 table z = tableOf (z .size .rows) (z .node) (z .row)
 
--- Nodes
+-- By tag: whether a version lives, and the place from which it reads a row
 
-abbrev pub InUse : Tree → ℕ → Type 0
-InUse t n = (n < 128) × (at (t .state) n ≢ 0)
+abbrev pub isFound : Option ℕ → Bool
+isFound none = false
+isFound (some n) = true
 
-abbrev pub Alive : Tree → ℕ → Type 0
-Alive t n = (n < 128) × (at (t .state) n ≡ 1)
+unfoldable pub lives : Records → ℕ → Bool
+lives z u = isFound (version (z .tree) u)
 
-abbrev pub Ghost : Tree → ℕ → Type 0
-Ghost t n = (n < 128) × (at (t .state) n ≡ 2)
+abbrev pub placeBy : Records → Option ℕ → ℕ → ℕ
+placeBy z none r = 0
+placeBy z (some n) r = place (z .tree) (table z) n r
 
--- a living version other than the origin
-abbrev pub Snapshot : Tree → ℕ → Type 0
-Snapshot t n = (n ≢ 0) × Alive t n
-
-abbrev pub up : Tree → ℕ → ℕ
-up t n = at (t .parent) n
-
--- c is a child of p: a node in use, other than node 0, whose parent is p
-abbrev pub Child : Tree → ℕ → ℕ → Type 0
-Child t p c = (c ≢ 0) × InUse t c × (up t c ≡ p)
-
--- the k-th node above n
-unfoldable pub ancestor : (ℕ → ℕ) → ℕ → ℕ → ℕ
-ancestor f zero n = n
-ancestor f (suc k) n = ancestor f k (f n)
-
--- going up from n reaches node 0
-abbrev pub Reaches : (ℕ → ℕ) → ℕ → Type 0
-Reaches f n = (k : ℕ) × (ancestor f k n ≡ 0)
-
--- Counts
-
-unfoldable pub isUsed : Tree → ℕ → Bool
-isUsed t n = not (eqb (at (t .state) n) 0)
-
--- nodes in use, node 0 among them
-unfoldable pub nodesUsed : Tree → ℕ
-nodesUsed t = count (isUsed t) 128
-
-unfoldable pub isChild : Tree → ℕ → ℕ → Bool
-isChild t p c = not (eqb c 0) && (isUsed t c && eqb (up t c) p)
-
--- how many children p has
-unfoldable pub children : Tree → ℕ → ℕ
-children t p = count (isChild t p) 128
-
-unfoldable pub isSnapshot : Tree → ℕ → Bool
-isSnapshot t n = not (eqb n 0) && eqb (at (t .state) n) 1
-
-unfoldable pub snapshots : Tree → ℕ
-snapshots t = count (isSnapshot t) 128
-
-unfoldable pub taken : Table → ℕ → Bool
-taken e i = not (eqb (at (e .node) i) 0)
-
--- places in use: the first L, and those whose entry is taken
-unfoldable pub used : Table → ℕ
-used e = e .rows + count (taken e) (length (e .node))
-
--- place p is one of those
-abbrev pub PlaceUsed : Table → ℕ → Type 0
-PlaceUsed e p = (p < e .rows) ⊎ ((i : ℕ) × (i < length (e .node)) × (at (e .node) i ≢ 0) × (p ≡ e .rows + i))
-
--- Versions: the living node with a tag
-
-unfoldable pub isVersion : Tree → ℕ → ℕ → Bool
-isVersion t tag n = eqb (at (t .state) n) 1 && eqb (at (t .tag) n) tag
-
-unfoldable pub version : Tree → ℕ → Option ℕ
-version t tag = first (isVersion t tag) 128
+unfoldable pub tagPlace : Records → ℕ → ℕ → ℕ
+tagPlace z u r = placeBy z (version (z .tree) u) r

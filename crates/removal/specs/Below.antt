@@ -4,10 +4,11 @@ use mathlib.Core.Logic.{_≢_, _⊎_, inl, inr}
 use Prim.Native.Nat.{ℕ, _+_, _<_}
 use native.Mathlib.Omega.{arith}
 use Rattle.basics.specs.Decide.{at}
-use Rattle.records.specs.declared.Tree.{Tree}
-use Rattle.records.specs.Records.{Table, Records, table, InUse, Ghost, up, Child, Reaches}
-use Rattle.records.specs.Reading.{Owns, Reads, origin, own, above}
-use Rattle.records.specs.Sound.{States, Linked}
+use Rattle.trees.specs.declared.Tree.{Tree}
+use Rattle.trees.specs.Trees.{Table, InUse, Ghost, up, Child, Reaches}
+use Rattle.records.specs.Records.{Records, table}
+use Rattle.trees.specs.Reading.{Owns, Reads, origin, own, above}
+use Rattle.trees.specs.Rules.{States, Linked}
 use Rattle.tree.specs.Going.{reaches-ind}
 use Rattle.edits.specs.WriteReaders.{alive-used}
 use Rattle.removal.specs.Removal.{Nearly}

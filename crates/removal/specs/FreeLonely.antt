@@ -8,9 +8,9 @@ use lib.Dec.{eqb}
 use lib.ListN.{length}
 use borrow.Author.Tests.{eq-eqb, ne-eqb, eqb-true}
 use Rattle.basics.specs.Decide.{at, and-yes, both, not-yes, not-of, failed, holds}
-use Rattle.records.specs.declared.Tree.{Tree}
-use Rattle.records.specs.Records.{Table, taken}
-use Rattle.records.specs.Reading.{Reads, origin, own, above, place}
+use Rattle.trees.specs.declared.Tree.{Tree}
+use Rattle.trees.specs.Trees.{Table, taken}
+use Rattle.trees.specs.Reading.{Reads, origin, own, above, place}
 use Rattle.sharing.specs.Sharing.{SharedAt, sharedAt}
 use Rattle.sharing.specs.Laws.{shared-decides}
 use Rattle.removal.specs.Removal.{lonely}

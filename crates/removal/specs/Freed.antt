@@ -9,9 +9,11 @@ use native.Mathlib.Decide.{ℕ-discrete}
 use native.Mathlib.Omega.{arith}
 use lib.ListN.{length}
 use Rattle.basics.specs.Decide.{at}
-use Rattle.records.specs.Records.{Table, Records, tableOf, recordsOf, table, Alive, Snapshot}
-use Rattle.records.specs.Reading.{Owns, Reads, origin, own, above, place}
-use Rattle.records.specs.Sound.{Excepting, AllRead, Sound}
+use Rattle.trees.specs.Trees.{Table, tableOf, Alive, Snapshot}
+use Rattle.records.specs.Records.{Records, recordsOf, table}
+use Rattle.trees.specs.Reading.{Owns, Reads, origin, own, above, place}
+use Rattle.trees.specs.Rules.{Excepting, AllRead}
+use Rattle.records.specs.Sound.{Sound}
 use Rattle.reading.specs.Reads.{place-reads, reads-place}
 use Rattle.edits.specs.WriteReaders.{alive-used, has-reader}
 use Rattle.sharing.specs.Sharing.{SharedAt}

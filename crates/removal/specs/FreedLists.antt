@@ -8,8 +8,8 @@ use native.Mathlib.Decide.{decLt}
 use native.Mathlib.Omega.{arith}
 use lib.ListN.{length, List·getD-eq-default}
 use Rattle.basics.specs.Decide.{at}
-use Rattle.records.specs.declared.Tree.{Tree}
-use Rattle.records.specs.Records.{Table}
+use Rattle.trees.specs.declared.Tree.{Tree}
+use Rattle.trees.specs.Trees.{Table}
 use Rattle.removal.specs.Removal.{lonely, Freed, mapAt, freedList}
 use Rattle.removal.specs.FreeLonely.{tested}
 use Rattle.removal.specs.Lists.{map-size, map-at, map-only}

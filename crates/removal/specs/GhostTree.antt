@@ -9,10 +9,10 @@ use lib.ListN.{length-set}
 use Rattle.basics.specs.Decide.{at}
 use Rattle.basics.specs.Count.{one, count}
 use Rattle.basics.specs.CountLaws.{sum-mono, one-yes, one-no, one-most}
-use Rattle.records.specs.declared.Tree.{Tree}
-use Rattle.records.specs.Records.{Table, InUse, Alive, Ghost, Snapshot, up, Child, isSnapshot, snapshots}
-use Rattle.records.specs.Reading.{climb, place}
-use Rattle.records.specs.Sound.{States, Linked, Tagged}
+use Rattle.trees.specs.declared.Tree.{Tree}
+use Rattle.trees.specs.Trees.{Table, InUse, Alive, Ghost, Snapshot, up, Child, isSnapshot, snapshots}
+use Rattle.trees.specs.Reading.{climb, place}
+use Rattle.trees.specs.Rules.{States, Linked, Tagged}
 use Rattle.tree.specs.Nodes.{snapshot-yes, snapshot-of}
 use Rattle.edits.specs.Edits.{Whole}
 use Rattle.edits.specs.Solve.{at-same, at-other}

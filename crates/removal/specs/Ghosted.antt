@@ -8,9 +8,11 @@ use native.Mathlib.Decide.{ℕ-discrete}
 use native.Mathlib.Omega.{arith}
 use lib.ListN.{length}
 use Rattle.basics.specs.Decide.{at}
-use Rattle.records.specs.Records.{Records, table, Alive, Snapshot, version}
-use Rattle.records.specs.Reading.{place}
-use Rattle.records.specs.Sound.{Excepting, AllRead, Sound}
+use Rattle.records.specs.Records.{Records, table}
+use Rattle.trees.specs.Trees.{Alive, Snapshot, version}
+use Rattle.trees.specs.Reading.{place}
+use Rattle.trees.specs.Rules.{Excepting, AllRead}
+use Rattle.records.specs.Sound.{Sound}
 use Rattle.tree.specs.Nodes.{version-alive}
 use Rattle.reading.specs.Reads.{reads-place}
 use Rattle.edits.specs.Edits.{withTree, Whole}

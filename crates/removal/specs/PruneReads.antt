@@ -5,10 +5,12 @@ use mathlib.Core.List.{List}
 use Prim.Native.Nat.{ℕ, _+_, _<_}
 use lib.ListN.{length}
 use Rattle.basics.specs.Decide.{at}
-use Rattle.records.specs.declared.Tree.{Tree}
-use Rattle.records.specs.Records.{Records, tableOf, recordsOf, table, InUse, Ghost, Child}
-use Rattle.records.specs.Reading.{place}
-use Rattle.records.specs.Sound.{Measured, Linked, Excepting, AllRead}
+use Rattle.trees.specs.declared.Tree.{Tree}
+use Rattle.records.specs.Records.{Records, recordsOf, table}
+use Rattle.trees.specs.Trees.{tableOf, InUse, Ghost, Child}
+use Rattle.trees.specs.Reading.{place}
+use Rattle.records.specs.Sound.{Measured}
+use Rattle.trees.specs.Rules.{Linked, Excepting, AllRead}
 use Rattle.reading.specs.Reads.{reads-place}
 use Rattle.edits.specs.Solve.{Solves, place-only}
 use Rattle.edits.specs.WriteReaders.{alive-used}

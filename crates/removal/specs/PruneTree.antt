@@ -9,9 +9,9 @@ use lib.Dec.{eqb}
 use borrow.Author.Tests.{eqb-true}
 use Rattle.basics.specs.Decide.{at, and-no}
 use Rattle.basics.specs.CountLaws.{count-cong, first-same}
-use Rattle.records.specs.declared.Tree.{Tree}
-use Rattle.records.specs.Records.{InUse, Alive, Ghost, Snapshot, up, Child, Reaches, isSnapshot, snapshots, isVersion, version}
-use Rattle.records.specs.Sound.{States, Linked, Tagged}
+use Rattle.trees.specs.declared.Tree.{Tree}
+use Rattle.trees.specs.Trees.{InUse, Alive, Ghost, Snapshot, up, Child, Reaches, isSnapshot, snapshots, isVersion, version}
+use Rattle.trees.specs.Rules.{States, Linked, Tagged}
 use Rattle.tree.specs.Going.{reaches-ind, reaches-root, reaches-up}
 use Rattle.tree.specs.Loops.{linked-reaches}
 use Rattle.tree.specs.Nodes.{version-no}

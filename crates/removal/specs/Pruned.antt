@@ -5,9 +5,10 @@ use Prim.Native.Nat.{ℕ}
 use native.Mathlib.Omega.{arith}
 use lib.ListN.{length-set}
 use Rattle.basics.specs.Decide.{at}
-use Rattle.records.specs.Records.{Records, table, InUse, Ghost, up, Child, version}
-use Rattle.records.specs.Reading.{place}
-use Rattle.records.specs.Sound.{Excepting}
+use Rattle.records.specs.Records.{Records, table}
+use Rattle.trees.specs.Trees.{InUse, Ghost, up, Child, version}
+use Rattle.trees.specs.Reading.{place}
+use Rattle.trees.specs.Rules.{Excepting}
 use Rattle.edits.specs.Edits.{Whole, withTree}
 use Rattle.edits.specs.Solve.{Solves, place-solves, at-same, at-other}
 use Rattle.removal.specs.Removal.{emptied, Nearly}

@@ -7,10 +7,12 @@ use Prim.Native.Nat.{ℕ, suc, _+_, _<_}
 use lib.Dec.{eqb}
 use lib.ListN.{length, set}
 use Rattle.basics.specs.Decide.{at}
-use Rattle.records.specs.declared.Tree.{Tree}
-use Rattle.records.specs.Records.{Table, Records, treeOf, table, Ghost, up, Child, taken}
-use Rattle.records.specs.Reading.{place, lives, tagPlace}
-use Rattle.records.specs.Sound.{Measured, States, Linked, Tagged, Excepting, AllRead, Sound}
+use Rattle.trees.specs.declared.Tree.{Tree}
+use Rattle.trees.specs.Trees.{Table, treeOf, Ghost, up, Child, taken}
+use Rattle.records.specs.Records.{Records, table, lives, tagPlace}
+use Rattle.trees.specs.Reading.{place}
+use Rattle.records.specs.Sound.{Measured, Sound}
+use Rattle.trees.specs.Rules.{States, Linked, Tagged, Excepting, AllRead}
 use Rattle.edits.specs.Edits.{hung}
 use Rattle.sharing.specs.Sharing.{SharedAt, sharedAt}
 

@@ -9,8 +9,8 @@ use native.Mathlib.Omega.{arith}
 use lib.ListN.{length}
 use borrow.Author.Tests.{eq-eqb, ne-eqb}
 use Rattle.basics.specs.Decide.{at}
-use Rattle.records.specs.Records.{Table, tableOf}
-use Rattle.records.specs.Reading.{Owns, entry, placeOr}
+use Rattle.trees.specs.Trees.{Table, tableOf}
+use Rattle.trees.specs.Reading.{Owns, entry, placeOr}
 use Rattle.reading.specs.Reads.{entry-some, entry-none, entry-own}
 use Rattle.removal.specs.Removal.{Relabelled}
 

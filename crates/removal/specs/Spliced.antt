@@ -7,9 +7,11 @@ use native.Mathlib.Decide.{ℕ-discrete}
 use native.Mathlib.Omega.{arith}
 use lib.ListN.{length, set, length-set}
 use Rattle.basics.specs.Decide.{at}
-use Rattle.records.specs.Records.{Records, tableOf, recordsOf, table, InUse, Ghost, up, Child, version}
-use Rattle.records.specs.Reading.{Owns, place}
-use Rattle.records.specs.Sound.{Excepting, Sound}
+use Rattle.records.specs.Records.{Records, recordsOf, table}
+use Rattle.trees.specs.Trees.{tableOf, InUse, Ghost, up, Child, version}
+use Rattle.trees.specs.Reading.{Owns, place}
+use Rattle.trees.specs.Rules.{Excepting}
+use Rattle.records.specs.Sound.{Sound}
 use Rattle.edits.specs.Edits.{Whole, hung}
 use Rattle.edits.specs.Solve.{Solves, place-solves, at-same, at-other}
 use Rattle.removal.specs.Removal.{spliced, Relabelled, Nearly}

@@ -1,4 +1,2 @@
-pub mod Output
-pub mod Turns
+pub mod Streams
 pub mod Laws
-pub mod Loop

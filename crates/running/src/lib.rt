@@ -2,75 +2,11 @@
 ghost use mathlib.Core.Path.{_≡_};
 ghost use Prim.Native.Nat.{_+_, _*_, _≤_};
 ghost use Rattle.records.specs.Records.{recordsOf};
-ghost use Rattle.replies.specs.Replying.{lineRoom};
-ghost use Rattle.running.specs.Output.{StreamEnds};
-ghost use Rattle.running.specs.Turns.{Ready, Turned};
-ghost use Rattle.running.specs.Loop.{Begins, Through};
-use commands::Command;
-use commands::Step;
-use measures::Row;
+ghost use Rattle.progress.specs.Replying.{lineRoom};
+ghost use Rattle.running.specs.Streams.{StreamEnds};
 use measures::Size;
-use records::Tree;
-use replies::Progress;
-
-// What stands at a position of the stream, and its line. An unknown command, or one that is cut, is the last.
-fn serve(
-    run: Progress,
-    step: Step,
-    stream: &[u8],
-    at: usize,
-    node: &mut [u8],
-    row: &mut [u16],
-    places: &mut [u8],
-    out: &mut [u8],
-) -> Progress
-    requires { ⌜ Ready run step (now stream) at (now out) ⌝ }
-    ensures { λ r. ⌜ Turned run (now (node .entry)) (now (row .entry)) (now (places .entry)) (now (stream .entry)) at (now (out .entry))
-        r (now (node .exit)) (now (row .exit)) (now (places .exit)) (now (out .exit)) (step .next) ⌝ }
-{
-    let found = step.command;
-    match found {
-        Command::Snapshot { source, tag } => replies::snapshot(run, node, row, source, tag, out),
-        Command::Read { tag, row: r } => {
-            replies::read(run, node, row, places, tag, Row(widen::pair(r)), out)
-        }
-        Command::Write { tag, row: r } => {
-            let width = run.size.width;
-            let bytes = &stream[at + 5..at + 5 + width];
-            replies::write(run, node, row, places, tag, Row(widen::pair(r)), bytes, out)
-        }
-        Command::Delete { tag } => replies::delete(run, node, row, tag, out),
-        Command::Count => replies::count(run, node, row, out),
-        Command::Unknown => replies::stop(run, step.number, out),
-        Command::Cut => replies::stop(run, step.number, out),
-        Command::Over => replies::over(run, run.end),
-    }
-}
-
-// Every command of the stream, and its line: from reader to reader.
-fn lines(
-    stream: &[u8],
-    width: usize,
-    first: Progress,
-    node: &mut [u8],
-    row: &mut [u16],
-    places: &mut [u8],
-    out: &mut [u8],
-) -> Progress
-    requires { ⌜ Begins width first (now stream) (now out) ⌝ }
-    ensures { λ r. ⌜ Through first (now (node .entry)) (now (row .entry)) (now (places .entry)) (now (stream .entry)) (now (out .entry))
-        r (now (node .exit)) (now (row .exit)) (now (places .exit)) (now (out .exit)) ⌝ }
-{
-    let mut reader = commands::make(stream);
-    let mut run = first;
-    while run.going {
-        let step = commands::command_here(reader, width);
-        let next = step.next;
-        run = serve(run, step, reader.stream, reader.at, node, row, places, out);
-        reader = commands::moved(reader, next);
-    }
-    run
-}
+use progress::Progress;
+use trees::Tree;
 
 // The bytes that the lines of n commands take at most, where a row has `width`.
 fn room(width: usize, n: usize) -> usize
@@ -120,7 +56,7 @@ pub fn run(
         line: 1,
         going: true,
     };
-    let last = lines(stream, width, first, node, row, places, out);
+    let last = streaming::lines(stream, width, first, node, row, places, out);
     let next = last.tree;
     Streamed {
         answer: 0,

@@ -14,9 +14,10 @@ use borrow.Author.Tests.{eq-eqb, ne-eqb, eqb-true, eqb-false}
 use Rattle.basics.specs.Decide.{Decides, at, and-yes, both, not-yes, not-of}
 use Rattle.basics.specs.Count.{sum, one, count, first}
 use Rattle.basics.specs.CountLaws.{sum-ones, one-yes, one-most, one-true, count-most, first-start, first-yes, first-no, first-more, first-some, first-none, first-nothing}
-use Rattle.records.specs.declared.Tree.{Tree}
-use Rattle.records.specs.Records.{Table, InUse, Alive, taken, used}
-use Rattle.records.specs.Reading.{place, isFound}
+use Rattle.trees.specs.declared.Tree.{Tree}
+use Rattle.trees.specs.Trees.{Table, InUse, Alive, taken, used}
+use Rattle.trees.specs.Reading.{place}
+use Rattle.records.specs.Records.{isFound}
 use Rattle.reading.specs.Lookup.{Looking}
 use Rattle.sharing.specs.Sharing.{SharedAt, isSharer, sharedAt, freeEntry, Sharing}
 

@@ -9,9 +9,10 @@ use lib.Dec.{eqb}
 use lib.ListN.{length}
 use Rattle.basics.specs.Decide.{at}
 use Rattle.basics.specs.Count.{first}
-use Rattle.records.specs.declared.Tree.{Tree}
-use Rattle.records.specs.Records.{Table, InUse, Alive}
-use Rattle.records.specs.Reading.{place, isFound}
+use Rattle.trees.specs.declared.Tree.{Tree}
+use Rattle.trees.specs.Trees.{Table, InUse, Alive}
+use Rattle.trees.specs.Reading.{place}
+use Rattle.records.specs.Records.{isFound}
 use Rattle.tree.specs.Rules.{Parents}
 
 -- another living version reads row r from the same place as the version at node v

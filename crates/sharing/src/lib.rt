@@ -1,7 +1,7 @@
 // Is a row shared, and is there a free place?
 ghost use mathlib.Core.Path.{_≡_};
 ghost use Rattle.basics.specs.Decide.{Decides};
-ghost use Rattle.records.specs.Records.{treeOf, tableOf};
+ghost use Rattle.trees.specs.Trees.{treeOf, tableOf};
 ghost use Rattle.tree.specs.Rules.{foundOf};
 ghost use Rattle.sharing.specs.Sharing.{freeEntry, Sharing, SharedAt};
 use measures::Row;

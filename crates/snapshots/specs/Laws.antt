@@ -8,9 +8,9 @@ use Prim.Native.Nat.{ℕ, _≤_, _<_}
 use native.Mathlib.Omega.{arith}
 use lib.Dec.{leb}
 use borrow.Author.Tests.{eq-eqb, ne-eqb, le-leb, lt-leb}
-use Rattle.records.specs.declared.Tree.{Tree}
-use Rattle.records.specs.Records.{Records, snapshots, nodesUsed, version}
-use Rattle.records.specs.Reading.{lives}
+use Rattle.trees.specs.declared.Tree.{Tree}
+use Rattle.records.specs.Records.{Records, lives}
+use Rattle.trees.specs.Trees.{snapshots, nodesUsed, version}
 use Rattle.records.specs.Sound.{Sound}
 use Rattle.answers.specs.Answers.{zero-tag, unknown-tag, tag-alive, snapshots-full}
 use Rattle.answers.specs.Tests.{Tests, refusal}

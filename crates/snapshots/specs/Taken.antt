@@ -9,8 +9,8 @@ use native.Mathlib.Omega.{arith}
 use lib.Dec.{eqb, leb}
 use borrow.Author.Tests.{eqb-false, leb-false, not-false}
 use Rattle.basics.specs.Decide.{at}
-use Rattle.records.specs.Records.{Records, snapshots, version}
-use Rattle.records.specs.Reading.{lives}
+use Rattle.records.specs.Records.{Records, lives}
+use Rattle.trees.specs.Trees.{snapshots, version}
 use Rattle.records.specs.Sound.{Sound}
 use Rattle.answers.specs.Answers.{zero-tag, unknown-tag, tag-alive, snapshots-full}
 use Rattle.answers.specs.Laws.{refusal-passed}

@@ -5,9 +5,9 @@ use mathlib.Core.List.{[], _∷_}
 use mathlib.Core.Option.{Option, none, some}
 use Prim.Native.Nat.{ℕ}
 use lib.Dec.{eqb, leb}
-use Rattle.records.specs.declared.Tree.{Tree}
-use Rattle.records.specs.Records.{Records, snapshots, version}
-use Rattle.records.specs.Reading.{lives}
+use Rattle.trees.specs.declared.Tree.{Tree}
+use Rattle.records.specs.Records.{Records, lives}
+use Rattle.trees.specs.Trees.{snapshots, version}
 use Rattle.answers.specs.Answers.{Refusal, zero-tag, unknown-tag, tag-alive, snapshots-full, unsound, number}
 use Rattle.answers.specs.Tests.{Tests, refusal}
 use Rattle.soundness.specs.Judged.{Judged, Leaves}

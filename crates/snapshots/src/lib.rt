@@ -1,11 +1,12 @@
 // Taking a snapshot: a new living node, between node 0 and its former child for the origin, under its source for any other. No place is touched.
 ghost use mathlib.Core.Path.{_≡_};
 ghost use Prim.Native.Nat.{_<_};
-ghost use Rattle.records.specs.Records.{recordsOf, nodesUsed};
+ghost use Rattle.records.specs.Records.{recordsOf};
+ghost use Rattle.trees.specs.Trees.{nodesUsed};
 ghost use Rattle.snapshots.specs.Taking.{treeAt, SnapshotEnds};
 use measures::Size;
-use records::Tree;
 use tree::Found;
+use trees::Tree;
 
 // An answer, and the tree of the records: as it was if refused.
 pub struct Snapped {

@@ -1,7 +1,8 @@
 -- The seven rules in the three parts that are checked: the measures, the tree, the table. Assumes nothing.
 use mathlib.Core.Path.{sym, _∙_}
 use Rattle.records.specs.Records.{Records, table}
-use Rattle.records.specs.Sound.{Measured, Linked, Sound}
+use Rattle.records.specs.Sound.{Measured, Sound}
+use Rattle.trees.specs.Rules.{Linked}
 use Rattle.tree.specs.Rules.{TreeSound}
 use Rattle.table.specs.Rules.{Fitting, TableSound}
 

@@ -5,7 +5,7 @@ ghost use Rattle.records.specs.Records.{recordsOf, table};
 ghost use Rattle.records.specs.Sound.{Sound};
 ghost use Rattle.table.specs.Rules.{Blank, Verdict};
 use measures::Size;
-use records::Tree;
+use trees::Tree;
 
 // The seven rules, with marks that are all 0. If they are met, the marks are left for each node and row that an entry names.
 pub fn judged<'a>(size: Size, tree: Tree, node: &'a [u8], row: &'a [u16], marks: &mut [u8]) -> bool
@@ -21,11 +21,11 @@ pub fn judged<'a>(size: Size, tree: Tree, node: &'a [u8], row: &'a [u16], marks:
     if row.len() != size.places - size.rows {
         return false;
     }
-    if !tree::sound(&tree.state, &tree.tag, &tree.parent) {
+    if !rules::tree_sound(&tree.state, &tree.tag, &tree.parent) {
         return false;
     }
     let rows = size.rows;
-    if !table::judged(&tree.state, &tree.tag, &tree.parent, rows, node, row, marks) {
+    if !rules::table_sound(&tree.state, &tree.tag, &tree.parent, rows, node, row, marks) {
         return false;
     }
     true

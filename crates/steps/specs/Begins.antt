@@ -9,7 +9,7 @@ use lib.ListN.{length, replicate, length-replicate}
 use borrow.Author.Tests.{eqb-true, not-false}
 use Rattle.measures.specs.declared.Size.{Size}
 use Rattle.measures.specs.Measures.{Within}
-use Rattle.records.specs.declared.Tree.{Tree}
+use Rattle.trees.specs.declared.Tree.{Tree}
 use Rattle.records.specs.Records.{Records, recordsOf}
 use Rattle.answers.specs.Answers.{Refusal, bad-size, bad-length, done, refused, numberOf}
 use Rattle.model.specs.Model.{opened}

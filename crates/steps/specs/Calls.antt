@@ -3,7 +3,7 @@
 use mathlib.Core.Path.{_≡_, _∙_, ap}
 use mathlib.Core.List.{List}
 use Prim.Native.Nat.{ℕ}
-use Rattle.records.specs.declared.Tree.{Tree}
+use Rattle.trees.specs.declared.Tree.{Tree}
 use Rattle.records.specs.Records.{Records}
 use Rattle.model.specs.Call.{snapshot, read, write, delete, count}
 use Rattle.answers.specs.Answers.{numberOf, rowOf, usedOf, snapshotsOf}
@@ -15,11 +15,15 @@ use Rattle.queries.specs.Queries.{Hands, Gives, countAnswer, readAnswer}
 use Rattle.view.specs.View.{Store, Agrees}
 use Rattle.view.specs.Queried.{read-step, count-step}
 use Rattle.snapshots.specs.Taking.{snapshotVerdict, snapshotTree}
-use Rattle.writing.specs.Writing.{Held, held, writeVerdict, written}
-use Rattle.steps.specs.Snapshotted.{snapshot-step, snapshot-store, snapshot-whole}
+use Rattle.owning.specs.Owning.{Held, held}
+use Rattle.writing.specs.Writing.{writeVerdict, written}
+use Rattle.took.specs.Took.{snapshot-whole}
+use Rattle.steps.specs.Snapshotted.{snapshot-step, snapshot-store}
 use Rattle.deleting.specs.Deleting.{Left, left, deleteVerdict, deleted}
-use Rattle.steps.specs.Removed.{leftRecords, delete-step, delete-store, delete-whole}
-use Rattle.steps.specs.Wrote.{heldRecords, write-step, write-store, write-whole}
+use Rattle.removed.specs.Removed.{leftRecords}
+use Rattle.steps.specs.Removed.{delete-step, delete-store, delete-whole}
+use Rattle.wrote.specs.Wrote.{heldRecords}
+use Rattle.steps.specs.Wrote.{write-step, write-store, write-whole}
 
 -- a store that runs: sound, with all its bytes, its arrays whole, and in agreement with the model
 pub record Runs (z : Records) (places : List ℕ) (m : Model) : Type 0 where

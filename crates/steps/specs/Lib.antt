@@ -1,11 +1,8 @@
 pub mod SharedTags
 pub mod Snapshotted
 pub mod WroteMap
-pub mod WroteRecords
 pub mod WroteVerdict
 pub mod Wrote
-pub mod RemovedRecords
-pub mod RemovedVersion
 pub mod Removed
 pub mod Calls
 pub mod Begins

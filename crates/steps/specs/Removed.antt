@@ -2,55 +2,37 @@
 use mathlib.Core.Path.{_≡_, refl, sym, _∙_, ap}
 use mathlib.Core.Logic.{_≢_, by-cases}
 use mathlib.Core.Bool.{true, not, _&&_}
-use mathlib.Core.List.{List, []}
+use mathlib.Core.List.{List}
 use mathlib.Core.Option.{Option, none, some}
 use Prim.Native.Nat.{ℕ, _<_}
 use native.Mathlib.Decide.{ℕ-discrete}
 use lib.Dec.{eqb}
-use borrow.Author.Tests.{eq-eqb, ne-eqb, eqb-false, not-false}
+use borrow.Author.Tests.{eq-eqb, ne-eqb}
 use Rattle.basics.specs.Decide.{both, not-of}
-use Rattle.measures.specs.declared.Size.{Size}
 use Rattle.measures.specs.Measures.{bytesAt}
-use Rattle.records.specs.Records.{Records, recordsOf, Snapshot, version}
-use Rattle.records.specs.Reading.{lives, tagPlace}
+use Rattle.records.specs.Records.{Records, lives, tagPlace}
 use Rattle.model.specs.Call.{delete}
-use Rattle.answers.specs.Answers.{Refusal, done, refused, origin-tag, unknown-tag}
-use Rattle.model.specs.Model.{alive, tests, accepted, without}
+use Rattle.answers.specs.Answers.{Refusal, done, refused}
+use Rattle.copies.specs.Copies.{alive, without}
+use Rattle.model.specs.Model.{tests, accepted}
 use Rattle.answers.specs.Tests.{unless}
-use Rattle.answers.specs.Laws.{refusal-passed}
-use Rattle.agreement.specs.Agree.{Alike, Effect, mapVerdict, mapAnswer, Step}
-use Rattle.agreement.specs.Living.{alive-gone, alive-stays}
+use Rattle.maps.specs.Map.{Alike}
+use Rattle.agreement.specs.Agree.{Effect, mapVerdict, mapAnswer, Step}
+use Rattle.copies.specs.Living.{alive-gone, alive-stays}
 use Rattle.edits.specs.Edits.{Whole}
-use Rattle.edits.specs.Solve.{lives-node}
 use Rattle.removal.specs.Removal.{Deleted}
 use Rattle.view.specs.View.{view, Store}
 use Rattle.view.specs.Viewed.{view-alive}
 use Rattle.deleting.specs.Deleting.{Left, left, deleteTests, deleteVerdict, deletedAt, deleted}
-use Rattle.steps.specs.WroteRecords.{origin-tag as node-origin}
-use Rattle.steps.specs.RemovedVersion.{removed, removed-whole}
-
--- all that a delete leaves
-abbrev pub deleteLeft : Records → ℕ → Left
-deleteLeft z tag = unless (deleteVerdict z tag) (λ x. left (z .tree) (z .node) (z .row)) (deleted z tag)
-
-abbrev pub leftRecords : Size → Left → Records
-leftRecords size l = recordsOf size (l .tree) (l .node) (l .row)
+use Rattle.intact.specs.Intact.{Intact}
+use Rattle.removed.specs.RemovedVersion.{removed}
+use Rattle.removed.specs.Removed.{leftRecords, deleteLeft, delete-allowed, delete-intact}
 
 module _ (z : Records) (places : List ℕ) (st : Store z places) (tag : ℕ) where
   -- the store's tests are the map's
   same-verdict : mapVerdict (z .size) (view z places) (delete tag) ≡ deleteVerdict z tag
   unfolding mapVerdict deleteVerdict tests deleteTests
   same-verdict = rw (view-alive z (st .sound) places tag)
-
-  -- an accepted delete is of a snapshot
-  delete-allowed : deleteVerdict z tag ≡ none → (tag ≢ 0) × ((v : ℕ) × (version (z .tree) tag ≡ some v) × Snapshot (z .tree) v)
-  unfolding deleteVerdict deleteTests
-  delete-allowed e =
-      let (a, e₁) = refusal-passed (eqb tag 0) origin-tag _ e in
-      let (b, e₂) = refusal-passed (not (lives z tag)) unknown-tag [] e₁ in
-      let (v, h, x, g) = lives-node z tag (not-false _ b) in
-      let off : tag ≢ 0 = eqb-false tag 0 a in
-      (off, (v, h, ((λ k. off (node-origin z (st .sound) tag (h ∙ ap some k))), x)))
 
   -- a deletion seen from the map
   module _ (l : Left) (off : tag ≢ 0) (d : Deleted z (leftRecords (z .size) l) tag) where
@@ -69,26 +51,15 @@ module _ (z : Records) (places : List ℕ) (st : Store z places) (tag : ℕ) whe
     deleted-effect = record {
       tags = λ u. view-alive (leftRecords (z .size) l) (d .sound) places u ∙ d .living u ∙ sym (living-left u);
       place = λ c k. place-left (c .0) (c .1) (k .0) (k .1);
-      bytes = λ c k. ap (bytesAt (z .size .width) places) (place-left (c .0) (c .1) (k .0) (k .1));
+      content = λ c k. ap (bytesAt (z .size .width) places) (place-left (c .0) (c .1) (k .0) (k .1));
     }
 
--- what is shown of what an accepted delete leaves
-record Removed (z : Records) (places : List ℕ) (tag : ℕ) (l : Left) : Type 0 where
-  effect : Effect (z .size) (view z places) (delete tag) (view (leftRecords (z .size) l) places)
-  store : Store (leftRecords (z .size) l) places
-  whole : Whole (l .tree)
-
 module _ (z : Records) (places : List ℕ) (st : Store z places) (w : Whole (z .tree)) (tag : ℕ) where
-  allowed-removed : deleteVerdict z tag ≡ none → Removed z places tag (deleted z tag)
+  allowed-removed : deleteVerdict z tag ≡ none → Effect (z .size) (view z places) (delete tag) (view (leftRecords (z .size) (deleted z tag)) places)
   unfolding deleted
   allowed-removed e =
-      let (off, (v, h, a)) = delete-allowed z places st tag e in
-      let d = removed z (st .sound) w tag v h a in
-      rw h (record {
-        effect = deleted-effect z places st tag (deletedAt z v) off d;
-        store = record { sound = d .sound; size = st .size };
-        whole = removed-whole z (st .sound) w tag v h a;
-      })
+      let (off, (v, h, a)) = delete-allowed z (st .sound) tag e in
+      rw h (deleted-effect z places st tag (deletedAt z v) off (removed z (st .sound) w tag v h a))
 
   abbrev leaves : Option Refusal → Left
   leaves o = unless o (λ x. left (z .tree) (z .node) (z .row)) (deleted z tag)
@@ -102,22 +73,17 @@ module _ (z : Records) (places : List ℕ) (st : Store z places) (w : Whole (z .
   }
     where
       go : (o : Option Refusal) → deleteVerdict z tag ≡ o
-          → unless o (λ x. Alike (z .size) (view (leftRecords (z .size) (leaves o)) places) (view z places)) (Effect (z .size) (view z places) (delete tag) (view (leftRecords (z .size) (leaves o)) places))
-      go none e = allowed-removed e .effect
-      go (some x) e = record { tags = λ u. refl; place = λ c l. refl; bytes = λ c l. refl }
+          → unless o (λ x. Alike (z .size .rows) (view (leftRecords (z .size) (leaves o)) places) (view z places)) (Effect (z .size) (view z places) (delete tag) (view (leftRecords (z .size) (leaves o)) places))
+      go none e = allowed-removed e
+      go (some x) e = record { tags = λ u. refl; place = λ c l. refl; content = λ c l. refl }
+
+  stays : Intact (leftRecords (z .size) (deleteLeft z tag)) places
+  stays = delete-intact z places (record { sound = st .sound; size = st .size; whole = w }) tag
 
   -- and the store is sound after it
   pub delete-store : Store (leftRecords (z .size) (deleteLeft z tag)) places
-  delete-store = go (deleteVerdict z tag) refl
-    where
-      go : (o : Option Refusal) → deleteVerdict z tag ≡ o → Store (leftRecords (z .size) (leaves o)) places
-      go none e = allowed-removed e .store
-      go (some x) e = st
+  delete-store = record { sound = stays .sound; size = stays .size }
 
   -- its arrays stay whole
   pub delete-whole : Whole (deleteLeft z tag .tree)
-  delete-whole = go (deleteVerdict z tag) refl
-    where
-      go : (o : Option Refusal) → deleteVerdict z tag ≡ o → Whole (leaves o .tree)
-      go none e = allowed-removed e .whole
-      go (some x) e = w
+  delete-whole = stays .whole

@@ -4,40 +4,36 @@ use mathlib.Core.Logic.{by-cases}
 use mathlib.Core.Bool.{true}
 use mathlib.Core.List.{List}
 use mathlib.Core.Option.{some}
-use Prim.Native.Nat.{ℕ, _+_, _*_, _≤_, _<_}
+use Prim.Native.Nat.{ℕ, _*_, _<_}
 use native.Mathlib.Decide.{ℕ-discrete}
-use native.Mathlib.Omega.{arith}
 use lib.ListN.{length}
-use Rattle.measures.specs.Measures.{beginsAt, bytesAt}
-use Rattle.records.specs.declared.Tree.{Tree}
-use Rattle.records.specs.Records.{Records, recordsOf, table, version}
-use Rattle.records.specs.Reading.{place, lives, tagPlace}
+use Rattle.measures.specs.Measures.{bytesAt}
+use Rattle.trees.specs.declared.Tree.{Tree}
+use Rattle.records.specs.Records.{Records, recordsOf, table, lives, tagPlace}
+use Rattle.trees.specs.Trees.{version}
+use Rattle.trees.specs.Reading.{place}
 use Rattle.records.specs.Sound.{Sound}
-use Rattle.model.specs.Model.{Cell, alive, put}
-use Rattle.agreement.specs.Agree.{Live, poke, kept, moved, divert, saved, Alike}
-use Rattle.agreement.specs.Living.{alive-origin}
-use Rattle.agreement.specs.Updates.{same-cell, put-at, put-off, poke-at, poke-off, divert-origin, divert-renames}
+use Rattle.copies.specs.Copies.{Cell, alive, put, Live}
+use Rattle.maps.specs.Map.{poke, kept, moved, divert, saved, Alike}
+use Rattle.copies.specs.Living.{alive-origin}
+use Rattle.maps.specs.Updates.{same-cell, put-at, put-off, poke-at, poke-off, divert-origin, divert-renames}
 use Rattle.edits.specs.Edits.{Moved, Saved}
 use Rattle.edits.specs.Solve.{tag-place}
 use Rattle.placing.specs.Placing.{putAt}
-use Rattle.placing.specs.Laws.{apart, bytes-size, put-size, bytes-put-same, bytes-put-other}
+use Rattle.placing.specs.Laws.{bytes-put-same, bytes-put-other}
+use Rattle.wrote.specs.WroteBytes.{place-within, home-inside, before-long, between-long}
 use Rattle.view.specs.View.{view, Store}
 use Rattle.view.specs.Viewed.{view-alive, view-low, view-rows, view-home}
 
 -- Bytes: a row put at one of n places changes the bytes of that place, and of no other
 
-module _ (width n : ℕ) (places : List ℕ) (size : length places ≡ n * width) where
-  place-within : (p : ℕ) → p < n → beginsAt width p + width ≤ length places
-  place-within p l = omega (arith, size, apart width p n l)
-
-  module _ (p : ℕ) (bs : List ℕ) (low : p < n) (b : length bs ≡ width) where
-    pub put-long : length (putAt width places p bs) ≡ n * width
-    put-long = put-size width places p bs b (place-within p low) ∙ size
-
-    pub put-pokes : (q : ℕ) → q < n → bytesAt width (putAt width places p bs) q ≡ poke p bs (bytesAt width places) q
-    put-pokes q l = by-cases (ℕ-discrete q p)
-        (λ e. rw (poke-at p bs (bytesAt width places) e, e) (bytes-put-same width places p bs b (place-within p low)))
-        (λ e. rw (poke-off p bs (bytesAt width places) e) (bytes-put-other width places p q bs b (place-within p low) (place-within q l) e))
+put-pokes : (width n : ℕ) (places : List ℕ) → length places ≡ n * width → (p : ℕ) (bs : List ℕ) → p < n → length bs ≡ width
+    → (q : ℕ) → q < n → bytesAt width (putAt width places p bs) q ≡ poke p bs (bytesAt width places) q
+put-pokes width n places size p bs low b q l =
+    let inside = place-within width n places size in
+    by-cases (ℕ-discrete q p)
+    (λ e. rw (poke-at p bs (bytesAt width places) e, e) (bytes-put-same width places p bs b (inside p low)))
+    (λ e. rw (poke-off p bs (bytesAt width places) e) (bytes-put-other width places p q bs b (inside p low) (inside q l) e))
 
 poke-same : {A : Type 0} (n : ℕ) (v : A) (f g : ℕ → A) (k : ℕ) → f k ≡ g k → poke n v f k ≡ poke n v g k
 unfolding poke
@@ -49,12 +45,12 @@ module _ (z : Records) (places : List ℕ) (st : Store z places) (r : ℕ) (bs :
 
   -- in place
   pub kept-alike : (tag v : ℕ) → version (z .tree) tag ≡ some v → Live (z .size .rows) (view z places .tags) (tag, r)
-      → Alike (z .size) (view z (putAt (z .size .width) places (place (z .tree) (table z) v r) bs)) (kept (view z places) (tag, r) bs)
+      → Alike (z .size .rows) (view z (putAt (z .size .width) places (place (z .tree) (table z) v r) bs)) (kept (view z places) (tag, r) bs)
   unfolding view
   kept-alike tag v h live = record {
     tags = λ u. refl;
     place = λ c l. refl;
-    bytes = λ c l. rw (← tag-place z tag v r h) (put-pokes (z .size .width) (z .size .places) places (st .size) (tagPlace z tag r) bs (low (tag, r) live) b (tagPlace z (c .0) (c .1)) (low c l));
+    content = λ c l. rw (← tag-place z tag v r h) (put-pokes (z .size .width) (z .size .places) places (st .size) (tagPlace z tag r) bs (low (tag, r) live) b (tagPlace z (c .0) (c .1)) (low c l));
   }
     where
       low : (c : Cell) → Live (z .size .rows) (view z places .tags) c → tagPlace z (c .0) (c .1) < z .size .places
@@ -67,24 +63,12 @@ module _ (z : Records) (places : List ℕ) (st : Store z places) (r : ℕ) (bs :
   abbrev between : ℕ → List ℕ
   between q = putAt (z .size .width) places q before
 
-  module _ (q : ℕ) (low : q < z .size .places) (home : r < z .size .rows) where
-    inside : r < z .size .places
-    inside = omega (arith, st .sound .measured .within .places .0)
-
-    before-long : length before ≡ z .size .width
-    before-long = bytes-size (z .size .width) places r (place-within (z .size .width) (z .size .places) places (st .size) r inside)
-
-    between-long : length (between q) ≡ z .size .places * z .size .width
-    between-long = put-long (z .size .width) (z .size .places) places (st .size) q before low before-long
-
-    pub saved-long : length (putAt (z .size .width) (putAt (z .size .width) places q (bytesAt (z .size .width) places r)) r bs) ≡ z .size .places * z .size .width
-    saved-long = put-long (z .size .width) (z .size .places) (between q) between-long r bs inside b
-
-    saved-bytes : (p : ℕ) → p < z .size .places → bytesAt (z .size .width) (putAt (z .size .width) (between q) r bs) p ≡ poke r bs (poke q before (bytesAt (z .size .width) places)) p
-    saved-bytes p l =
-        put-pokes (z .size .width) (z .size .places) (between q) between-long r bs inside b p l
-        ∙ poke-same r bs (bytesAt (z .size .width) (between q)) (poke q before (bytesAt (z .size .width) places)) p
-        (put-pokes (z .size .width) (z .size .places) places (st .size) q before low before-long p l)
+  saved-bytes : (q : ℕ) → q < z .size .places → r < z .size .rows
+      → (p : ℕ) → p < z .size .places → bytesAt (z .size .width) (putAt (z .size .width) (between q) r bs) p ≡ poke r bs (poke q before (bytesAt (z .size .width) places)) p
+  saved-bytes q low home p l =
+      put-pokes (z .size .width) (z .size .places) (between q) (between-long z (st .sound) places (st .size) r q low home) r bs (home-inside z (st .sound) places (st .size) r q low home) b p l
+      ∙ poke-same r bs (bytesAt (z .size .width) (between q)) (poke q before (bytesAt (z .size .width) places)) p
+      (put-pokes (z .size .width) (z .size .places) places (st .size) q before low (before-long z (st .sound) places (st .size) r q low home) p l)
 
   -- the records after, of the same size
   module _ (t : Tree) (node row : List ℕ) where
@@ -100,12 +84,12 @@ module _ (z : Records) (places : List ℕ) (st : Store z places) (r : ℕ) (bs :
 
     -- to a free place
     pub moved-alike : (tag q : ℕ) → q < z .size .places → Moved z after tag r q
-        → Alike (z .size) (view after (putAt (z .size .width) places q bs)) (moved (view z places) (tag, r) bs q)
+        → Alike (z .size .rows) (view after (putAt (z .size .width) places q bs)) (moved (view z places) (tag, r) bs q)
     unfolding view
     moved-alike tag q low m = record {
       tags = same-tags (m .sound) (m .living) (putAt (z .size .width) places q bs);
       place = to;
-      bytes = λ c l. put-pokes (z .size .width) (z .size .places) places (st .size) q bs low b (tagPlace after (c .0) (c .1)) (low-after (m .sound) (m .living) places c l)
+      content = λ c l. put-pokes (z .size .width) (z .size .places) places (st .size) q bs low b (tagPlace after (c .0) (c .1)) (low-after (m .sound) (m .living) places c l)
           ∙ ap (poke q bs (bytesAt (z .size .width) places)) (to c l);
     }
       where
@@ -119,12 +103,12 @@ module _ (z : Records) (places : List ℕ) (st : Store z places) (r : ℕ) (bs :
 
     -- over the origin's bytes
     pub saved-alike : (q : ℕ) → q < z .size .places → r < z .size .rows → Saved z after r q
-        → Alike (z .size) (view after (putAt (z .size .width) (putAt (z .size .width) places q (bytesAt (z .size .width) places r)) r bs)) (saved (view z places) r bs q)
+        → Alike (z .size .rows) (view after (putAt (z .size .width) (putAt (z .size .width) places q (bytesAt (z .size .width) places r)) r bs)) (saved (view z places) r bs q)
     unfolding view
     saved-alike q low home m = record {
       tags = same-tags (m .sound) (m .living) (putAt (z .size .width) (between q) r bs);
       place = to;
-      bytes = λ c l.
+      content = λ c l.
           saved-bytes q low home (tagPlace after (c .0) (c .1)) (low-after (m .sound) (m .living) places c l)
           ∙ ap (poke r bs (poke q before (bytesAt (z .size .width) places))) (to c l);
     }

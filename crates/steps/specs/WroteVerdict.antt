@@ -1,26 +1,25 @@
--- The store's tests of a write are the place map's, and what an accepted write has passed. Assumes nothing.
+-- The store's tests of a write are the place map's. Assumes nothing.
 use mathlib.Core.Path.{_≡_, refl, sym, _∙_}
-use mathlib.Core.Bool.{Bool, true, false, not, _&&_}
+use mathlib.Core.Bool.{Bool, true, false, _&&_}
 use mathlib.Core.List.{List, [], _∷_}
-use mathlib.Core.Option.{none, some}
-use Prim.Native.Nat.{ℕ, _*_, _<_}
-use lib.Dec.{eqb, leb}
-use lib.ListN.{length}
-use borrow.Author.Tests.{eq-eqb, eqb-true, leb-false, not-false}
+use Prim.Native.Nat.{ℕ}
+use lib.Dec.{leb}
+use borrow.Author.Tests.{eq-eqb, not-false}
 use Rattle.basics.specs.Decide.{not-no}
-use Rattle.records.specs.Records.{Records, table, used, version}
-use Rattle.records.specs.Reading.{lives}
+use Rattle.records.specs.Records.{Records, lives}
+use Rattle.trees.specs.Trees.{version}
 use Rattle.model.specs.Call.{write}
-use Rattle.answers.specs.Answers.{Refusal, bad-length, bad-row, unknown-tag, places-full}
-use Rattle.model.specs.Model.{shared, placesUsed, tests}
+use Rattle.answers.specs.Answers.{Refusal, bad-length, places-full}
+use Rattle.copies.specs.Copies.{shared, placesUsed}
+use Rattle.model.specs.Model.{tests}
 use Rattle.answers.specs.Tests.{Tests, refusal}
-use Rattle.answers.specs.Laws.{refusal-next, refusal-passed}
+use Rattle.answers.specs.Laws.{refusal-next}
 use Rattle.agreement.specs.Agree.{mapVerdict}
 use Rattle.edits.specs.Solve.{lives-node}
-use Rattle.sharing.specs.Sharing.{sharedAt}
 use Rattle.view.specs.View.{view, Store}
 use Rattle.view.specs.Viewed.{view-alive, view-used}
-use Rattle.writing.specs.Writing.{fullTest, writeTests, writeVerdict}
+use Rattle.unsharing.specs.Unsharing.{fullTest}
+use Rattle.writing.specs.Writing.{writeTests, writeVerdict}
 use Rattle.steps.specs.SharedTags.{shared-view}
 
 -- later tests may be compared as if the earlier ones did not hold
@@ -28,13 +27,6 @@ refusal-same : (b : Bool) (r : Refusal) (ts us : Tests) → (b ≡ false → ref
 unfolding refusal
 refusal-same true r ts us h = refl
 refusal-same false r ts us h = h refl
-
--- what an accepted write has passed
-pub record Allowed (z : Records) (tag r : ℕ) (bs : List ℕ) (v : ℕ) : Type 0 where
-  pub width : length bs ≡ z .size .width
-  pub low : r < z .size .rows
-  pub stands : version (z .tree) tag ≡ some v
-  pub room : sharedAt (z .tree) (table z) v r ≡ true → used (table z) < z .size .places
 
 module _ (z : Records) (places : List ℕ) (st : Store z places) (tag r : ℕ) (bs : List ℕ) where
   -- the last test, of a living version
@@ -48,21 +40,3 @@ module _ (z : Records) (places : List ℕ) (st : Store z places) (tag r : ℕ) (
   same-verdict =
       rw (view-alive z (st .sound) places tag) (refusal-same _ _ _ _ (λ x. refusal-same _ _ _ _ (λ y. refusal-same _ _ _ _ (λ l. same-full (not-false _ l)))))
       ∙ sym (refusal-next bad-length _ (not-no (eq-eqb _ _ (st .size))))
-
-  pub write-allowed : writeVerdict z places tag r bs ≡ none → (v : ℕ) × Allowed z tag r bs v
-  unfolding writeVerdict writeTests fullTest
-  write-allowed e =
-      let (a, e₁) = refusal-passed (not (eqb (length places) (z .size .places * z .size .width))) bad-length _ e in
-      let (b, e₂) = refusal-passed (not (eqb (length bs) (z .size .width))) bad-length _ e₁ in
-      let (c, e₃) = refusal-passed (leb (z .size .rows) r) bad-row _ e₂ in
-      let (d, e₄) = refusal-passed (not (lives z tag)) unknown-tag _ e₃ in
-      let (v, h, x, g) = lives-node z tag (not-false _ d) in
-      let (f, e₅) = refusal-passed (sharedAt (z .tree) (table z) v r && leb (z .size .places) (used (table z))) places-full [] (rw h at e₄) in (
-        v,
-        record {
-          width = eqb-true _ _ (not-false _ b);
-          low = leb-false _ _ c;
-          stands = h;
-          room = λ k. leb-false _ _ (rw k at f);
-        },
-      )

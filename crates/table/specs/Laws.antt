@@ -11,10 +11,10 @@ use lib.Seq.{getD-set-same, getD-set-other}
 use Rattle.basics.specs.Decide.{at}
 use Rattle.bits.specs.Bits.{has, joined}
 use Rattle.bits.specs.Laws.{has-none, joined-size, joined-bytes, has-joined, has-others}
-use Rattle.records.specs.declared.Tree.{Tree}
-use Rattle.records.specs.Records.{Table, InUse, Alive, up}
-use Rattle.records.specs.Reading.{Owns, Reads, origin, own}
-use Rattle.records.specs.Sound.{Linked, Excepting}
+use Rattle.trees.specs.declared.Tree.{Tree}
+use Rattle.trees.specs.Trees.{Table, InUse, Alive, up}
+use Rattle.trees.specs.Reading.{Owns, Reads, origin, own}
+use Rattle.trees.specs.Rules.{Linked, Excepting}
 use Rattle.tree.specs.Loops.{Climbing, climb-over, linked-reaches}
 use Rattle.table.specs.Rules.{ReadAt, slot, Marked, EntryFits, Verdict, Entering, Meets, here, above, Met, Judging, Nodes, Blank}
 

@@ -7,10 +7,10 @@ use Prim.Native.Nat.{ℕ, _+_, _*_, _≤_, _<_}
 use lib.ListN.{length}
 use Rattle.basics.specs.Decide.{Decides, at}
 use Rattle.bits.specs.Bits.{has}
-use Rattle.records.specs.declared.Tree.{Tree}
-use Rattle.records.specs.Records.{Table, InUse, Alive, up}
-use Rattle.records.specs.Reading.{Owns, Reads}
-use Rattle.records.specs.Sound.{Linked, Excepting, AllRead}
+use Rattle.trees.specs.declared.Tree.{Tree}
+use Rattle.trees.specs.Trees.{Table, InUse, Alive, up}
+use Rattle.trees.specs.Reading.{Owns, Reads}
+use Rattle.trees.specs.Rules.{Linked, Excepting, AllRead}
 
 -- the rules 6 and 7
 pub record TableSound (t : Tree) (e : Table) : Type 0 where

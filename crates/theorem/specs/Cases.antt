@@ -5,12 +5,13 @@ use mathlib.Core.List.{List, [], _∷_, map}
 use Prim.Native.Nat.{ℕ}
 use lib.ListN.{length, replicate}
 use Rattle.measures.specs.declared.Size.{Size}
-use Rattle.records.specs.declared.Tree.{Tree}
+use Rattle.trees.specs.declared.Tree.{Tree}
 use Rattle.records.specs.Records.{recordsOf}
 use Rattle.answers.specs.Tests.{refusal, verdictNumber, inMeasure, openTests}
 use Rattle.answers.specs.Laws.{verdict-none}
 use Rattle.model.specs.Call.{Call, snapshot, read, write, delete, count}
-use Rattle.model.specs.Model.{any, different, alive, snapshotsAlive, shared, placesUsed, tests, accepted, adopt, put, without, effect, opened, verdict, answer, after, answers}
+use Rattle.copies.specs.Copies.{any, different, alive, snapshotsAlive, shared, placesUsed, adopt, put, without}
+use Rattle.model.specs.Model.{tests, accepted, effect, opened, verdict, answer, after, answers}
 use Rattle.opening.specs.Opening.{openVerdict, Opening}
 use Rattle.theorem.specs.Trace.{State, state, Handed, handed, Trace, handedOf}
 use Rattle.theorem.specs.Theorem.{theorem-opened}

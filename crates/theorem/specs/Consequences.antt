@@ -14,11 +14,12 @@ use Rattle.basics.specs.Decide.{and-yes, both}
 use Rattle.measures.specs.declared.Size.{Size}
 use Rattle.model.specs.Call.{Call, snapshot, read, write, delete, count}
 use Rattle.answers.specs.Answers.{Refusal, places-full, number, Answer, done, row, refused, numberOf}
-use Rattle.model.specs.Model.{Cell, Model, alive, snapshotsAlive, shared, placesUsed, tests, accepted, adopt, effect, verdict, answer, after, final}
+use Rattle.copies.specs.Copies.{Cell, alive, snapshotsAlive, shared, placesUsed, adopt}
+use Rattle.model.specs.Model.{Model, tests, accepted, effect, verdict, answer, after, final}
 use Rattle.answers.specs.Tests.{Tests, orElse, refusal, unless}
 use Rattle.answers.specs.Laws.{refusal-next, refusal-none, number-some}
-use Rattle.agreement.specs.Living.{alive-cons, alive-stays}
-use Rattle.agreement.specs.Updates.{put-off}
+use Rattle.copies.specs.Living.{alive-cons, alive-stays}
+use Rattle.maps.specs.Updates.{put-off}
 use Rattle.agreement.specs.Verdicts.{none-passed}
 
 -- an answer of 0 is no refusal
@@ -40,11 +41,11 @@ full-not false h = refl
 module _ (z : Size) (m : Model) where
   -- the test for want of a place
   abbrev wants : ℕ → ℕ → Bool
-  wants t r = shared (m .snapshots) (m .mark) t r && leb (z .places) (placesUsed (z .rows) (m .snapshots) (m .mark))
+  wants t r = shared (m .snapshots) (m .rows .mark) t r && leb (z .places) (placesUsed (z .rows) (m .snapshots) (m .rows .mark))
 
-  wants-iff : (t r : ℕ) → wants t r ≡ true ↔ ((shared (m .snapshots) (m .mark) t r ≡ true) × (z .places ≤ placesUsed (z .rows) (m .snapshots) (m .mark)))
+  wants-iff : (t r : ℕ) → wants t r ≡ true ↔ ((shared (m .snapshots) (m .rows .mark) t r ≡ true) × (z .places ≤ placesUsed (z .rows) (m .snapshots) (m .rows .mark)))
   wants-iff t r = (
-    λ e. let (x, y) = both (shared (m .snapshots) (m .mark) t r) (leb (z .places) (placesUsed (z .rows) (m .snapshots) (m .mark))) e in (x, leb-true _ _ y),
+    λ e. let (x, y) = both (shared (m .snapshots) (m .rows .mark) t r) (leb (z .places) (placesUsed (z .rows) (m .snapshots) (m .rows .mark))) e in (x, leb-true _ _ y),
     λ h. and-yes (h .0) (le-leb _ _ (h .1)),
   )
 
@@ -56,14 +57,14 @@ module _ (z : Size) (m : Model) where
 
   -- of the writes that reach the last test, 24 refuses exactly those whose row is shared while no place is left
   pub write-full : (t r : ℕ) (bs : List ℕ) → length bs ≡ z .width → r < z .rows → alive (m .snapshots) t ≡ true
-      → (numberOf (answer z m (write t r bs)) ≡ 24) ↔ ((shared (m .snapshots) (m .mark) t r ≡ true) × (z .places ≤ placesUsed (z .rows) (m .snapshots) (m .mark)))
+      → (numberOf (answer z m (write t r bs)) ≡ 24) ↔ ((shared (m .snapshots) (m .rows .mark) t r ≡ true) × (z .places ≤ placesUsed (z .rows) (m .snapshots) (m .rows .mark)))
   unfolding answer accepted
   write-full t r bs l k a = rw (write-left t r bs l k a)
       (λ e. wants-iff t r .0 (full-iff (wants t r) .0 e), λ h. full-iff (wants t r) .1 (wants-iff t r .1 h))
 
   -- and otherwise it is accepted
   pub write-accepted : (t r : ℕ) (bs : List ℕ) → length bs ≡ z .width → r < z .rows → alive (m .snapshots) t ≡ true
-      → ((shared (m .snapshots) (m .mark) t r ≡ true) × (z .places ≤ placesUsed (z .rows) (m .snapshots) (m .mark)) → ⊥) → numberOf (answer z m (write t r bs)) ≡ 0
+      → ((shared (m .snapshots) (m .rows .mark) t r ≡ true) × (z .places ≤ placesUsed (z .rows) (m .snapshots) (m .rows .mark)) → ⊥) → numberOf (answer z m (write t r bs)) ≡ 0
   unfolding answer accepted
   write-accepted t r bs l k a h = rw (write-left t r bs l k a) (full-not (wants t r) (λ e. h (wants-iff t r .0 e)))
 
@@ -76,7 +77,7 @@ module _ (z : Size) (m : Model) where
   snapshot-of : (s t : ℕ) → verdict z m (snapshot s t) ≡ none → (t ≢ 0) × (alive (m .snapshots) s ≡ true) × (alive (m .snapshots) t ≡ false) × (snapshotsAlive (m .snapshots) < 64)
   unfolding verdict tests
   snapshot-of s t e =
-      let p = none-passed (tests z (m .snapshots) (m .mark) (snapshot s t)) e in
+      let p = none-passed (tests z (m .snapshots) (m .rows .mark) (snapshot s t)) e in
       (eqb-false t 0 (p .0), not-false _ (p .1 .0), p .1 .1 .0, leb-false _ _ (p .1 .1 .1 .0))
 
   -- a snapshot is accepted exactly if its tag is not 0 and not alive, its source lives, and fewer than 64 snapshots are alive
@@ -88,11 +89,11 @@ module _ (z : Size) (m : Model) where
   )
 
   -- a delete changes no other version's rows
-  pub delete-others : (t u r : ℕ) → u ≢ t → (after z m (delete t) .bytes (u, r) ≡ m .bytes (u, r)) × (alive (after z m (delete t) .snapshots) u ≡ alive (m .snapshots) u)
+  pub delete-others : (t u r : ℕ) → u ≢ t → (after z m (delete t) .rows .content (u, r) ≡ m .rows .content (u, r)) × (alive (after z m (delete t) .snapshots) u ≡ alive (m .snapshots) u)
   unfolding after effect
   delete-others t u r h = go (verdict z m (delete t))
     where
-      go : (v : Option Refusal) → (unless v (λ x. m) (effect m (delete t)) .bytes (u, r) ≡ m .bytes (u, r)) × (alive (unless v (λ x. m) (effect m (delete t)) .snapshots) u ≡ alive (m .snapshots) u)
+      go : (v : Option Refusal) → (unless v (λ x. m) (effect m (delete t)) .rows .content (u, r) ≡ m .rows .content (u, r)) × (alive (unless v (λ x. m) (effect m (delete t)) .snapshots) u ≡ alive (m .snapshots) u)
       go none = (refl, alive-stays (m .snapshots) t u h)
       go (some x) = (refl, refl)
 
@@ -113,11 +114,11 @@ other (t ∷ ts) a o h = go (t .0) (other ts a (o .1) h)
 -- 20 is never answered
 pub never-unsound : (z : Size) (m : Model) (c : Call) → numberOf (answer z m c) ≢ 20
 unfolding answer verdict tests accepted
-never-unsound z m (snapshot s t) = other (tests z (m .snapshots) (m .mark) (snapshot s t)) done (omega arith, (omega arith, (omega arith, (omega arith, tt)))) (omega arith)
-never-unsound z m (read t r) = other (tests z (m .snapshots) (m .mark) (read t r)) (row (m .bytes (t, r))) (omega arith, (omega arith, tt)) (omega arith)
-never-unsound z m (write t r bs) = other (tests z (m .snapshots) (m .mark) (write t r bs)) done (omega arith, (omega arith, (omega arith, (omega arith, tt)))) (omega arith)
-never-unsound z m (delete t) = other (tests z (m .snapshots) (m .mark) (delete t)) done (omega arith, (omega arith, tt)) (omega arith)
-never-unsound z m count = other [] (accepted z (m .snapshots) (m .mark) (m .bytes) count) tt (omega arith)
+never-unsound z m (snapshot s t) = other (tests z (m .snapshots) (m .rows .mark) (snapshot s t)) done (omega arith, (omega arith, (omega arith, (omega arith, tt)))) (omega arith)
+never-unsound z m (read t r) = other (tests z (m .snapshots) (m .rows .mark) (read t r)) (row (m .rows .content (t, r))) (omega arith, (omega arith, tt)) (omega arith)
+never-unsound z m (write t r bs) = other (tests z (m .snapshots) (m .rows .mark) (write t r bs)) done (omega arith, (omega arith, (omega arith, (omega arith, tt)))) (omega arith)
+never-unsound z m (delete t) = other (tests z (m .snapshots) (m .rows .mark) (delete t)) done (omega arith, (omega arith, tt)) (omega arith)
+never-unsound z m count = other [] (accepted z (m .snapshots) (m .rows .mark) (m .rows .content) count) tt (omega arith)
 
 -- a call that neither writes a version, deletes it nor takes its tag
 abbrev pub Spares : ℕ → Call → Type 0
@@ -133,19 +134,19 @@ AllSpare u [] = Unit {0}
 AllSpare u (c ∷ cs) = Spares u c × AllSpare u cs
 
 -- what such a call does, and the model after it, have the version's rows as they were
-effect-spares : (m : Model) (u r : ℕ) (c : Call) → Spares u c → effect m c .bytes (u, r) ≡ m .bytes (u, r)
+effect-spares : (m : Model) (u r : ℕ) (c : Call) → Spares u c → effect m c .rows .content (u, r) ≡ m .rows .content (u, r)
 unfolding effect adopt
 effect-spares m u r (snapshot s t) h = rw (ne-eqb u t (λ e. h (sym e)))
 effect-spares m u r (read t k) h = refl
-effect-spares m u r (write t k bs) h = put-off (t, k) bs (m .bytes) (λ e. h (sym (ap (λ (c : Cell). c .0) e)))
+effect-spares m u r (write t k bs) h = put-off (t, k) bs (m .rows .content) (λ e. h (sym (ap (λ (c : Cell). c .0) e)))
 effect-spares m u r (delete t) h = refl
 effect-spares m u r count h = refl
 
-after-spares : (z : Size) (m : Model) (u r : ℕ) (c : Call) → Spares u c → after z m c .bytes (u, r) ≡ m .bytes (u, r)
+after-spares : (z : Size) (m : Model) (u r : ℕ) (c : Call) → Spares u c → after z m c .rows .content (u, r) ≡ m .rows .content (u, r)
 unfolding after
 after-spares z m u r c h = go (verdict z m c)
   where
-    go : (v : Option Refusal) → unless v (λ x. m) (effect m c) .bytes (u, r) ≡ m .bytes (u, r)
+    go : (v : Option Refusal) → unless v (λ x. m) (effect m c) .rows .content (u, r) ≡ m .rows .content (u, r)
     go none = effect-spares m u r c h
     go (some x) = refl
 
@@ -172,7 +173,7 @@ unfolding final
 lives-on z u [] m h = refl
 lives-on z u (c ∷ cs) m h = lives-on z u cs (after z m c) (h .1) ∙ after-lives z m u c (h .0)
 
-pub reads-as-left : (z : Size) (u : ℕ) (cs : List Call) (m : Model) → AllSpare u cs → (r : ℕ) → final z m cs .bytes (u, r) ≡ m .bytes (u, r)
+pub reads-as-left : (z : Size) (u : ℕ) (cs : List Call) (m : Model) → AllSpare u cs → (r : ℕ) → final z m cs .rows .content (u, r) ≡ m .rows .content (u, r)
 unfolding final
 reads-as-left z u [] m h r = refl
 reads-as-left z u (c ∷ cs) m h r = reads-as-left z u cs (after z m c) (h .1) r ∙ after-spares z m u r c (h .0)

@@ -2,7 +2,7 @@
 use mathlib.Core.Path.{_≡_, refl, _∙_}
 use mathlib.Core.List.{List}
 use Prim.Native.Nat.{ℕ}
-use Rattle.records.specs.declared.Tree.{Tree}
+use Rattle.trees.specs.declared.Tree.{Tree}
 use Rattle.records.specs.Records.{Records}
 use Rattle.records.specs.Sound.{Sound}
 use Rattle.answers.specs.Laws.{unless-made}
@@ -10,7 +10,8 @@ use Rattle.model.specs.Call.{Call}
 use Rattle.model.specs.Model.{Model}
 use Rattle.edits.specs.Edits.{withTree}
 use Rattle.snapshots.specs.Taking.{snapshotVerdict, snapshotTree}
-use Rattle.writing.specs.Writing.{held, writeVerdict, written}
+use Rattle.owning.specs.Owning.{held}
+use Rattle.writing.specs.Writing.{writeVerdict, written}
 use Rattle.deleting.specs.Deleting.{Left, left, deleteVerdict, deleted}
 use Rattle.steps.specs.Calls.{Runs}
 use Rattle.theorem.specs.Trace.{State, state, stateHeld, stateLeft, Handed, Call-ends, snapshot-ends, read-ends, write-ends, delete-ends, count-ends, Trace, over, then, leaves, leftBy}

@@ -6,12 +6,13 @@ use mathlib.Core.List.{List, [], _∷_, map}
 use Prim.Native.Nat.{ℕ, _≤_, _<_}
 use lib.ListN.{length}
 use Rattle.measures.specs.declared.Size.{Size}
-use Rattle.records.specs.Records.{Records, table, snapshots, used}
-use Rattle.records.specs.Reading.{lives, tagPlace}
+use Rattle.records.specs.Records.{Records, table, lives, tagPlace}
+use Rattle.trees.specs.Trees.{snapshots, used}
 use Rattle.answers.specs.Answers.{numberOf}
 use Rattle.model.specs.Call.{Call, snapshot, write, delete}
-use Rattle.model.specs.Model.{Model, alive, snapshotsAlive, shared, answer, after, answers, final}
-use Rattle.agreement.specs.Counting.{shared-yes, shared-some}
+use Rattle.model.specs.Model.{Model, answer, after, answers, final}
+use Rattle.copies.specs.Copies.{alive, snapshotsAlive, shared}
+use Rattle.copies.specs.Counting.{shared-yes, shared-some}
 use Rattle.edits.specs.Edits.{Whole}
 use Rattle.queries.specs.Queries.{rowOfTag}
 use Rattle.view.specs.View.{view, Store, started}
@@ -48,12 +49,12 @@ module _ (s : State) (st : Store (s .records) (s .places)) (w : Whole (s .record
   unfolding final
   equals = theorem-sound (s .records) (s .places) st w over .1
 
-  shares-iff : (tag r : ℕ) → lives (s .records) tag ≡ true → r < s .records .size .rows → Shares (s .records) tag r ↔ (shared (its .snapshots) (its .mark) tag r ≡ true)
+  shares-iff : (tag r : ℕ) → lives (s .records) tag ≡ true → r < s .records .size .rows → Shares (s .records) tag r ↔ (shared (its .snapshots) (its .rows .mark) tag r ≡ true)
   shares-iff tag r a l =
       let e = equals in
       let b = sym (e .living tag) ∙ a in (
-        λ x. let c = sym (e .living (x .0)) ∙ x .1 in shared-yes (its .snapshots) (its .mark) tag r (x .0) c (x .2) (e .sharing (x .0) tag r c b l .0 (x .3)),
-        λ h. let (u, c, d, f) = shared-some (its .snapshots) (its .mark) tag r h in (u, e .living u ∙ c, d, e .sharing u tag r c b l .1 f),
+        λ x. let c = sym (e .living (x .0)) ∙ x .1 in shared-yes (its .snapshots) (its .rows .mark) tag r (x .0) c (x .2) (e .sharing (x .0) tag r c b l .0 (x .3)),
+        λ h. let (u, c, d, f) = shared-some (its .snapshots) (its .rows .mark) tag r h in (u, e .living u ∙ c, d, e .sharing u tag r c b l .1 f),
       )
 
   alive-snapshots : snapshotsAlive (its .snapshots) ≡ snapshots (s .records .tree)

@@ -5,11 +5,12 @@ use mathlib.Core.List.{List, [], _∷_, map}
 use mathlib.Core.Option.{Option, none, some}
 use Prim.Native.Nat.{ℕ}
 use Rattle.measures.specs.declared.Size.{Size}
-use Rattle.records.specs.declared.Tree.{Tree}
+use Rattle.trees.specs.declared.Tree.{Tree}
 use Rattle.records.specs.Records.{Records, recordsOf}
 use Rattle.model.specs.Call.{Call, snapshot, read, write, delete, count}
 use Rattle.answers.specs.Answers.{Refusal, Answer, done, row, refused, rowOf, usedOf, snapshotsOf}
-use Rattle.model.specs.Model.{Model, placesUsed, opened, verdict, answer, after, answers, final, accepted}
+use Rattle.model.specs.Model.{Model, opened, verdict, answer, after, answers, final, accepted}
+use Rattle.copies.specs.Copies.{placesUsed}
 use Rattle.answers.specs.Tests.{unless}
 use Rattle.agreement.specs.Steps.{used-agree}
 use Rattle.edits.specs.Edits.{Whole}
@@ -52,7 +53,7 @@ module _ (z : Size) (m : Model) where
 
   read-plain : (t r : ℕ) → (usedOf (answer z m (read t r)) ≡ 0) × (snapshotsOf (answer z m (read t r)) ≡ 0)
   unfolding answer accepted
-  read-plain t r = no-counts (verdict z m (read t r)) (row (m .bytes (t, r))) (refl, refl)
+  read-plain t r = no-counts (verdict z m (read t r)) (row (m .rows .content (t, r))) (refl, refl)
 
   count-plain : rowOf (answer z m count) ≡ []
   unfolding answer accepted
@@ -87,15 +88,15 @@ pub runs-equal : (size : Size) (s : State) (m : Model) → s .records .size ≡ 
 unfolding rowOfTag view
 runs-equal size s m e run =
     let k = run .store .sound in
-    let a = run .agrees in
+    let a = run .agrees .rows in
     record {
       sized = e;
       store = run .store;
       whole = run .whole;
-      living = λ t. sym (view-alive (s .records) k (s .places) t) ∙ a .tags t;
-      rows = λ t r h l. a .bytes (t, r) (h, rw e l);
+      living = λ t. sym (view-alive (s .records) k (s .places) t) ∙ a .living t;
+      rows = λ t r h l. a .content (t, r) (h, rw e l);
       sharing = λ t u r h g l. a .names (t, r) (u, r) (h, rw e l) (g, rw e l);
-      inUse = sym (view-used (s .records) k (s .places)) ∙ used-agree (s .records .size) a ∙ ap (λ (x : Size). placesUsed (x .rows) (m .snapshots) (m .mark)) e;
+      inUse = sym (view-used (s .records) k (s .places)) ∙ used-agree (s .records .size) (run .agrees) ∙ ap (λ (x : Size). placesUsed (x .rows) (m .snapshots) (m .rows .mark)) e;
     }
 
 -- any list of calls

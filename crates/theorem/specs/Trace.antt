@@ -5,18 +5,20 @@ use mathlib.Core.Bool.{true}
 use mathlib.Core.List.{List, [], _∷_}
 use Prim.Native.Nat.{ℕ, _<_}
 use Rattle.measures.specs.declared.Size.{Size}
-use Rattle.records.specs.declared.Tree.{Tree}
-use Rattle.records.specs.Records.{Records, recordsOf, table, used}
-use Rattle.records.specs.Reading.{lives, tagPlace}
+use Rattle.trees.specs.declared.Tree.{Tree}
+use Rattle.records.specs.Records.{Records, recordsOf, table, lives, tagPlace}
+use Rattle.trees.specs.Trees.{used}
 use Rattle.model.specs.Call.{Call, snapshot, read, write, delete, count}
 use Rattle.answers.specs.Answers.{Answer, numberOf, rowOf, usedOf, snapshotsOf}
 use Rattle.answers.specs.Tests.{unless}
-use Rattle.model.specs.Model.{Model, alive, placesUsed}
+use Rattle.model.specs.Model.{Model}
+use Rattle.copies.specs.Copies.{alive, placesUsed}
 use Rattle.queries.specs.Queries.{CountEnds, ReadEnds, rowOfTag}
 use Rattle.edits.specs.Edits.{withTree, Whole}
 use Rattle.view.specs.View.{Store}
 use Rattle.snapshots.specs.Taking.{snapshotVerdict, snapshotTree, SnapshotEnds}
-use Rattle.writing.specs.Writing.{Held, writeVerdict, written, WriteEnds}
+use Rattle.owning.specs.Owning.{Held}
+use Rattle.writing.specs.Writing.{writeVerdict, written, WriteEnds}
 use Rattle.deleting.specs.Deleting.{Left, deleteVerdict, deleted, DeleteEnds}
 
 -- the records and the bytes of the places, as one call leaves them for the next
@@ -87,7 +89,7 @@ pub record Equals (size : Size) (s : State) (m : Model) : Type 0 where
   pub store : Store (s .records) (s .places)
   pub whole : Whole (s .records .tree)
   pub living : (t : ℕ) → lives (s .records) t ≡ alive (m .snapshots) t
-  pub rows : (t r : ℕ) → alive (m .snapshots) t ≡ true → r < size .rows → rowOfTag (s .records) (s .places) t r ≡ m .bytes (t, r)
+  pub rows : (t r : ℕ) → alive (m .snapshots) t ≡ true → r < size .rows → rowOfTag (s .records) (s .places) t r ≡ m .rows .content (t, r)
   pub sharing : (t u r : ℕ) → alive (m .snapshots) t ≡ true → alive (m .snapshots) u ≡ true → r < size .rows
-      → (tagPlace (s .records) t r ≡ tagPlace (s .records) u r) ↔ (m .mark (t, r) ≡ m .mark (u, r))
-  pub inUse : used (table (s .records)) ≡ placesUsed (size .rows) (m .snapshots) (m .mark)
+      → (tagPlace (s .records) t r ≡ tagPlace (s .records) u r) ↔ (m .rows .mark (t, r) ≡ m .rows .mark (u, r))
+  pub inUse : used (table (s .records)) ≡ placesUsed (size .rows) (m .snapshots) (m .rows .mark)

@@ -3,21 +3,24 @@
 use libc::STDOUT_FILENO;
 use measures::Row;
 use measures::Size;
-use records::Tree;
+use trees::Tree;
 
-fn number(n: usize) {
+// Words, and a number behind them.
+fn show(words: &[u8], n: usize) {
+    io::write_all(STDOUT_FILENO, words);
     io::print_decimal(STDOUT_FILENO, n as u64);
+}
+
+fn end_line() {
+    io::write_all(STDOUT_FILENO, b"\n");
 }
 
 fn show_count<'a>(size: Size, tree: Tree, node: &'a [u8], row: &'a [u16]) {
     let c = queries::count(size, tree, node, row);
-    io::write_all(STDOUT_FILENO, b"count: answer ");
-    number(c.answer as usize);
-    io::write_all(STDOUT_FILENO, b", places in use ");
-    number(c.used);
-    io::write_all(STDOUT_FILENO, b", snapshots alive ");
-    number(c.snapshots);
-    io::write_all(STDOUT_FILENO, b"\n");
+    show(b"count: answer ", widen::byte(c.answer));
+    show(b", places in use ", c.used);
+    show(b", snapshots alive ", c.snapshots);
+    end_line();
 }
 
 fn show_byte(b: u8) {
@@ -43,15 +46,12 @@ fn show_read<'a>(
 ) {
     let mut answer: u8 = 0;
     let bytes = queries::read(size, tree, node, row, places, tag, Row(r), &mut answer);
-    io::write_all(STDOUT_FILENO, b"read tag ");
-    number(tag as usize);
-    io::write_all(STDOUT_FILENO, b" row ");
-    number(r);
-    io::write_all(STDOUT_FILENO, b": answer ");
-    number(answer as usize);
+    show(b"read tag ", widen::pair(tag));
+    show(b" row ", r);
+    show(b": answer ", widen::byte(answer));
     io::write_all(STDOUT_FILENO, b", bytes ");
     show_row(bytes);
-    io::write_all(STDOUT_FILENO, b"\n");
+    end_line();
 }
 
 // A fresh store of 4 rows of 8 bytes in 6 places.
@@ -65,14 +65,17 @@ fn fresh() {
     let mut node = [255u8; 2];
     let mut row = [255u16; 2];
     let opened = opening::open(size, &mut places, &mut node, &mut row);
-    io::write_all(STDOUT_FILENO, b"open: answer ");
-    number(opened.answer as usize);
-    io::write_all(STDOUT_FILENO, b"\n");
-    let tree = opened.tree;
-    show_count(size, tree, &node, &row);
-    show_read(size, tree, &node, &row, &places, 0, 3);
-    show_read(size, tree, &node, &row, &places, 0, 4);
-    show_read(size, tree, &node, &row, &places, 7, 0);
+    show(b"open: answer ", widen::byte(opened.answer));
+    end_line();
+    read_fresh(size, opened.tree, &node, &row, &places);
+}
+
+// The last row, a row that is not there, and a version that is not.
+fn read_fresh<'a>(size: Size, tree: Tree, node: &'a [u8], row: &'a [u16], places: &'a [u8]) {
+    show_count(size, tree, node, row);
+    show_read(size, tree, node, row, places, 0, 3);
+    show_read(size, tree, node, row, places, 0, 4);
+    show_read(size, tree, node, row, places, 7, 0);
 }
 
 // The tree of the drawing: node 0, a ghost 1 below it, tags 7 and 9 below that, tag 8 below tag 7.
@@ -94,6 +97,17 @@ fn drawn_tree() -> Tree {
     Tree { state, tag, parent }
 }
 
+// Row 2 of every version, and the row that tag 9 has for itself.
+fn read_drawn<'a>(size: Size, tree: Tree, node: &'a [u8], row: &'a [u16], places: &'a [u8]) {
+    show_count(size, tree, node, row);
+    show_read(size, tree, node, row, places, 0, 2);
+    show_read(size, tree, node, row, places, 7, 2);
+    show_read(size, tree, node, row, places, 8, 2);
+    show_read(size, tree, node, row, places, 9, 2);
+    show_read(size, tree, node, row, places, 9, 0);
+}
+
+// The store of the drawing; then the same with an entry of another node, and with an entry twice.
 fn drawn() {
     let size = Size {
         rows: 3,
@@ -103,42 +117,8 @@ fn drawn() {
     let tree = drawn_tree();
     let node = [1u8, 0, 3, 4];
     let row = [2u16, 0, 2, 0];
-    let places = [
-        0u8,
-        0,
-        0,
-        0,
-        16,
-        16,
-        16,
-        16,
-        32,
-        32,
-        32,
-        32,
-        48,
-        48,
-        48,
-        48,
-        0,
-        0,
-        0,
-        0,
-        80,
-        80,
-        80,
-        80,
-        96,
-        96,
-        96,
-        96,
-    ];
-    show_count(size, tree, &node, &row);
-    show_read(size, tree, &node, &row, &places, 0, 2);
-    show_read(size, tree, &node, &row, &places, 7, 2);
-    show_read(size, tree, &node, &row, &places, 8, 2);
-    show_read(size, tree, &node, &row, &places, 9, 2);
-    show_read(size, tree, &node, &row, &places, 9, 0);
+    let places = b"\x00\x00\x00\x00\x10\x10\x10\x10    0000\x00\x00\x00\x00PPPP````";
+    read_drawn(size, tree, &node, &row, places);
     let damaged = [1u8, 0, 3, 3];
     show_count(size, tree, &damaged, &row);
     let twice = [2u16, 0, 2, 2];

@@ -10,7 +10,7 @@ use lib.Dec.{eqb}
 use borrow.Author.Tests.{eqb-true, eqb-false}
 use Rattle.basics.specs.Count.{first}
 use Rattle.basics.specs.CountLaws.{first-some, first-none, distinct-below}
-use Rattle.records.specs.Records.{ancestor, Reaches}
+use Rattle.trees.specs.Trees.{ancestor, Reaches}
 
 module _ (f : ℕ → ℕ) where
   pub ancestor-zero : (n : ℕ) → ancestor f 0 n ≡ n

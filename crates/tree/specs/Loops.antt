@@ -1,8 +1,7 @@
--- What the check's loops keep: a search for a tag, a climb, a count of children. Assumes nothing.
+-- What the check's loops keep: a search for a tag, a count of snapshots, a climb. Assumes nothing.
 use mathlib.Core.Path.{_≡_, refl, sym, _∙_, ap}
 use mathlib.Core.Logic.{_≢_, by-cases}
-use mathlib.Core.Bool.{Bool, true, false, not}
-use mathlib.Core.List.{List}
+use mathlib.Core.Bool.{not}
 use mathlib.Core.Option.{none, some}
 use Prim.Native.Nat.{ℕ, _+_, _≤_, _<_}
 use native.Mathlib.Decide.{ℕ-discrete}
@@ -10,17 +9,15 @@ use native.Mathlib.Omega.{arith}
 use borrow.Author.Count.{below-more}
 use borrow.Author.Tests.{eqb-true}
 use lib.Dec.{eqb}
-use lib.ListN.{length, set, replicate, getD-replicate}
-use lib.Seq.{getD-set-same, getD-set-other}
 use Rattle.basics.specs.Decide.{at, and-no}
 use Rattle.basics.specs.Count.{count, first}
-use Rattle.basics.specs.CountLaws.{count-none, count-no, count-yes, first-yes, first-no, first-more}
-use Rattle.records.specs.declared.Tree.{Tree}
-use Rattle.records.specs.Records.{InUse, up, Child, ancestor, Reaches, isSnapshot, snapshots, isChild, children, isVersion, version}
-use Rattle.records.specs.Sound.{States, Linked, Tagged, Branching}
+use Rattle.basics.specs.CountLaws.{count-none, count-no, first-yes, first-no, first-more}
+use Rattle.trees.specs.declared.Tree.{Tree}
+use Rattle.trees.specs.Trees.{InUse, up, ancestor, Reaches, isSnapshot, isVersion, version}
+use Rattle.trees.specs.Rules.{Linked}
 use Rattle.tree.specs.Going.{ancestor-zero, ancestor-next, reaches-root, near}
-use Rattle.tree.specs.Nodes.{child-yes, child-of, version-yes, version-no, tag-version, one-child, two-children}
-use Rattle.tree.specs.Rules.{Parents, Climbs, Tag, Counted}
+use Rattle.tree.specs.Nodes.{version-yes, version-no}
+use Rattle.tree.specs.Rules.{Parents, Climbs}
 
 module _ (t : Tree) where
   -- the search for a tag
@@ -65,57 +62,3 @@ module _ (t : Tree) where
 
   pub linked-reaches : Linked t → (n : ℕ) → InUse t n → Reaches (up t) n
   linked-reaches l n u = by-cases (ℕ-discrete n 0) (λ e. rw e (reaches-root (up t))) (λ e. l .reaches n e u)
-
-  -- the count of children
-  pub counted-first : Counted t (replicate 128 0) 1
-  unfolding isChild
-  counted-first p l = getD-replicate 128 p 0 0 l ∙ sym (count-no (isChild t p) 0 refl ∙ count-none (isChild t p))
-
-  pub counted-child : (kids : List ℕ) (p c : ℕ) → length kids ≡ 128 → p < 128 → Child t p c → Counted t kids c → Counted t (set kids p (at kids p + 1)) (c + 1)
-  counted-child kids p c e l h k q m = by-cases (ℕ-discrete q p)
-      (λ x. rw (x, getD-set-same kids p (at kids p + 1) 0 (rw e l), count-yes (isChild t p) c (child-yes t p c h), k p l))
-      (λ x. getD-set-other kids p q (at kids p + 1) 0 x ∙ k q m ∙ sym (count-no (isChild t q) c (other q x)))
-    where
-      other : (q : ℕ) → q ≢ p → isChild t q c ≡ false
-      other q x = go (isChild t q c) refl
-        where
-          go : (b : Bool) → isChild t q c ≡ b → isChild t q c ≡ false
-          go true f = absurd (x (sym (child-of t q c (h .1 .0) f .2) ∙ h .2))
-          go false f = f
-
-  pub counted-past : (kids : List ℕ) (c : ℕ) → at (t .state) c ≡ 0 → c < 128 → Counted t kids c → Counted t kids (c + 1)
-  counted-past kids c e l k p m = k p m ∙ sym (count-no (isChild t p) c (go (isChild t p c) refl))
-    where
-      go : (b : Bool) → isChild t p c ≡ b → isChild t p c ≡ false
-      go true f = absurd (child-of t p c l f .1 .1 e)
-      go false f = f
-
-  -- rules 4 and 5 from their tests
-  pub tag-all : ((n : ℕ) → n < 128 → Tag t n) → snapshots t ≤ 64 → Tagged t
-  tag-all h m = record {
-    above = λ n s. h n (s .1 .0) s .0;
-    different = λ n k s r e.
-        let a = h n (s .1 .0) s .1 in
-        let b = h k (r .1 .0) r .1 in
-        let c : some n ≡ some k = sym a ∙ ap (version t) e ∙ b in
-        cc;
-    most = m;
-  }
-
-  pub tag-node : States t → Tagged t → (n : ℕ) → Tag t n
-  tag-node s g n h = (g .above n h, tag-version t s n h (g .above n h) (λ m k e. g .different m n k h e))
-
-  pub branch-all : (kids : List ℕ) → Counted t kids 128 → at kids 0 ≤ 1 → ((n : ℕ) → n < 128 → at (t .state) n ≡ 2 → 2 ≤ at kids n) → Branching t
-  unfolding children
-  branch-all kids k r g = record {
-    root = one-child t 0 .0 (omega (arith, k 0 (omega arith)));
-    ghost = λ n h. two-children t n .0 (omega (arith, k n (h .0), g n (h .0) (h .1)));
-  }
-
-  pub branch-root : (kids : List ℕ) → Counted t kids 128 → Branching t → at kids 0 ≤ 1
-  unfolding children
-  branch-root kids k b = omega (arith, k 0 (omega arith), one-child t 0 .1 (b .root))
-
-  pub branch-ghost : (kids : List ℕ) → Counted t kids 128 → Branching t → (n : ℕ) → n < 128 → at (t .state) n ≡ 2 → 2 ≤ at kids n
-  unfolding children
-  branch-ghost kids k b n l e = omega (arith, k n l, two-children t n .1 (b .ghost n (l, e)))

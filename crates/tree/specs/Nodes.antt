@@ -9,9 +9,9 @@ use lib.Dec.{eqb}
 use borrow.Author.Tests.{eq-eqb, ne-eqb, eqb-true}
 use Rattle.basics.specs.Decide.{at, and-yes, both, not-yes, not-of}
 use Rattle.basics.specs.CountLaws.{first-some, first-only, count-two, count-pair, count-one}
-use Rattle.records.specs.declared.Tree.{Tree}
-use Rattle.records.specs.Records.{Alive, Snapshot, up, Child, isSnapshot, isUsed, isChild, children, isVersion, version}
-use Rattle.records.specs.Sound.{States}
+use Rattle.trees.specs.declared.Tree.{Tree}
+use Rattle.trees.specs.Trees.{Alive, Snapshot, up, Child, isSnapshot, isUsed, isChild, children, isVersion, version}
+use Rattle.trees.specs.Rules.{States}
 
 module _ (t : Tree) where
   pub used-yes : (n : ℕ) → at (t .state) n ≢ 0 → isUsed t n ≡ true

@@ -50,15 +50,15 @@ use denote.Triple.Call.{calls-at, calls-at-last}
 use denote.Triple.Clauses.{Ended, Clauses, Lasts, closing, ensured, lasts}
 use denote.Triple.Table.{entered, cited}
 use denote.Triple.Walked.{says, needs, Stays, stay-dropped, stay-slice, walkOf, goes-dropped, goes-slice, Walks, ends-at, walked, walk-meets}
-use Rattle.commands.specs.declared.Reader.{Reader}
+use Rattle.readers.specs.declared.Reader.{Reader}
 use Rattle.commands.specs.declared.Step.{Step}
-use Rattle.commands.proofs.Reader as R
-use Rattle.commands.proofs.Reader.Laws as R′
+use Rattle.readers.proofs.Reader as R
+use Rattle.readers.proofs.Reader.Laws as R′
 use Rattle.commands.proofs.Step as S
 use Rattle.commands.proofs.Step.Laws as S′
-use Rattle.commands.proofs.Told as told
-use Rattle.commands.proofs.Told.{Form, Told, chosen, token, hears}
-use Rattle.commands.proofs.Readers.{reader, a-step, Make, Moved, Takes, Within}
+use Rattle.readers.proofs.Told as told
+use Rattle.readers.proofs.Told.{Form, Told, chosen, token, hears}
+use Rattle.readers.proofs.Readers.{reader, a-step, Make, Moved, Takes, Within}
 use Rattle.turning.proofs.Borrowed.{Borrow, borrowed, ref, val, Mine, Lent, goes-out, comes-home}
 
 -- ---- the run that goes from turn to turn: a type of plain data with a field that says whether there is another

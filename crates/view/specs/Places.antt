@@ -11,9 +11,9 @@ use borrow.Author.Tests.{lt-ltb, le-ltb, ltb-true, ltb-false, eqb-true, eqb-fals
 use Rattle.basics.specs.Decide.{Decides, at}
 use Rattle.basics.specs.Count.{sum, one, count}
 use Rattle.basics.specs.CountLaws.{sum-ones, count-cong, one-yes}
-use Rattle.records.specs.declared.Tree.{Tree}
-use Rattle.records.specs.Records.{Table, taken, used, PlaceUsed}
-use Rattle.records.specs.Reading.{Reads, origin, own, above}
+use Rattle.trees.specs.declared.Tree.{Tree}
+use Rattle.trees.specs.Trees.{Table, taken, used, PlaceUsed}
+use Rattle.trees.specs.Reading.{Reads, origin, own, above}
 
 -- a place below L is that row's own; any other is its entry's
 abbrev pub rowOfPlace : Table → ℕ → ℕ

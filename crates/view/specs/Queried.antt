@@ -14,12 +14,13 @@ use Rattle.answers.specs.Answers.{Refusal, bad-length, counts}
 use Rattle.model.specs.Model.{tests, accepted}
 use Rattle.answers.specs.Tests.{refusal, unless}
 use Rattle.answers.specs.Laws.{refusal-next}
-use Rattle.agreement.specs.Agree.{Map, Alike, Effect, mapVerdict, mapAnswer, Step}
+use Rattle.maps.specs.Map.{Alike}
+use Rattle.agreement.specs.Agree.{RowMap, Effect, mapVerdict, mapAnswer, Step}
 use Rattle.view.specs.View.{view, Store}
 use Rattle.view.specs.Viewed.{view-alive, view-snapshots, view-used}
 
-alike-self : (z : Size) (m : Map) → Alike z m m
-alike-self z m = record { tags = λ t. refl; place = λ c l. refl; bytes = λ c l. refl }
+alike-self : (n : ℕ) (m : RowMap) → Alike n m m
+alike-self n m = record { tags = λ t. refl; place = λ c l. refl; content = λ c l. refl }
 
 -- refused or not, nothing changes
 either-way : {A : Type 0} (v : Option Refusal) → A → unless v (λ r. A) A
@@ -36,12 +37,12 @@ pub read-step : (z : Records) (places : List ℕ) → Store z places → (tag r 
 unfolding readAnswer mapAnswer accepted rowOfTag view Effect
 read-step z places st tag r = record {
   says = rw (read-verdict z places st tag r);
-  goes = either-way (mapVerdict (z .size) (view z places) (read tag r)) (alike-self (z .size) (view z places));
+  goes = either-way (mapVerdict (z .size) (view z places) (read tag r)) (alike-self (z .size .rows) (view z places));
 }
 
 pub count-step : (z : Records) (places : List ℕ) → Store z places → Step (z .size) (view z places) count (countAnswer z) (view z places)
 unfolding mapAnswer mapVerdict tests accepted refusal Effect
 count-step z places st = record {
   says = ap₂ counts (sym (view-used z (st .sound) places)) (sym (view-snapshots z (st .sound) places));
-  goes = alike-self (z .size) (view z places);
+  goes = alike-self (z .size .rows) (view z places);
 }

@@ -10,14 +10,15 @@ use lib.ListN.{length, take, drop, replicate, length-take, length-drop, length-r
 use lib.Seq.{ext-getD, getD-take, getD-drop}
 use Rattle.measures.specs.declared.Size.{Size}
 use Rattle.measures.specs.Measures.{Within, bytesAt}
-use Rattle.records.specs.Records.{Records, recordsOf, isSnapshot}
-use Rattle.records.specs.Reading.{tagPlace}
+use Rattle.records.specs.Records.{Records, recordsOf, tagPlace}
+use Rattle.trees.specs.Trees.{isSnapshot}
 use Rattle.opening.specs.Opening.{firstTree}
 use Rattle.opening.specs.First.{first-sound}
-use Rattle.model.specs.Model.{Cell, alive, opened}
-use Rattle.agreement.specs.Agree.{Live, firstMap, Agree}
-use Rattle.agreement.specs.Living.{alive-in}
-use Rattle.agreement.specs.Members.{In}
+use Rattle.copies.specs.Copies.{Cell, alive, Live}
+use Rattle.model.specs.Model.{opened}
+use Rattle.agreement.specs.Agree.{Agree}
+use Rattle.copies.specs.Living.{alive-in}
+use Rattle.copies.specs.Members.{In}
 use Rattle.agreement.specs.Steps.{alike-agree, first-agree, start-agree}
 use Rattle.view.specs.View.{tagsBelow, view, Store, started}
 use Rattle.view.specs.Viewed.{view-low, view-rows, view-home}
@@ -64,11 +65,11 @@ origin-only u e = go (alive-in [] u .0 e)
 
 pub open-agrees : (z : Size) → Within z → (n : ℕ) → n ≡ z .places - z .rows
     → Agree z (view (recordsOf z firstTree (replicate n 0) (replicate n 0)) (replicate (z .places * z .width) 0)) (opened z)
-unfolding firstMap view
+unfolding view
 open-agrees z w n e = alike-agree z (first-agree z) (record {
   tags = λ t. rw no-tags;
   place = home;
-  bytes = λ c l. rw (home c l) (bytes-zero (z .width) (c .1) (z .places) (omega (arith, l .1, w .places .0)));
+  content = λ c l. rw (home c l) (bytes-zero (z .width) (c .1) (z .places) (omega (arith, l .1, w .places .0)));
 })
   where
     first : Records

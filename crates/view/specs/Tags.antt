@@ -11,12 +11,12 @@ use borrow.Author.Tests.{eqb-true}
 use Rattle.basics.specs.Decide.{at}
 use Rattle.basics.specs.Count.{sum, count}
 use Rattle.basics.specs.CountLaws.{one-yes, one-no}
-use Rattle.records.specs.declared.Tree.{Tree}
-use Rattle.records.specs.Records.{isSnapshot}
-use Rattle.records.specs.Sound.{Tagged}
+use Rattle.trees.specs.declared.Tree.{Tree}
+use Rattle.trees.specs.Trees.{isSnapshot}
+use Rattle.trees.specs.Rules.{Tagged}
 use Rattle.tree.specs.Nodes.{snapshot-of}
-use Rattle.model.specs.Model.{any, different}
-use Rattle.agreement.specs.Members.{In, any-some}
+use Rattle.copies.specs.Copies.{any, different}
+use Rattle.copies.specs.Members.{In, any-some}
 use Rattle.view.specs.View.{tagsBelow}
 
 -- a value that f has nowhere else on the list is one more

@@ -7,23 +7,23 @@ use Prim.Native.Nat.{ℕ, zero, suc, _*_}
 use lib.ListN.{length}
 use Rattle.basics.specs.Decide.{at}
 use Rattle.measures.specs.Measures.{bytesAt}
-use Rattle.records.specs.declared.Tree.{Tree}
-use Rattle.records.specs.Records.{Records, isSnapshot}
-use Rattle.records.specs.Reading.{tagPlace}
+use Rattle.trees.specs.declared.Tree.{Tree}
+use Rattle.records.specs.Records.{Records, tagPlace}
+use Rattle.trees.specs.Trees.{isSnapshot}
 use Rattle.records.specs.Sound.{Sound}
 use Rattle.model.specs.Model.{Model}
-use Rattle.agreement.specs.Agree.{Map, Agree}
+use Rattle.agreement.specs.Agree.{RowMap, Agree}
 
 -- the tags of the snapshots at nodes below n
 unfoldable pub tagsBelow : Tree → ℕ → List ℕ
 tagsBelow t zero = []
 tagsBelow t (suc n) = cond (isSnapshot t n) (at (t .tag) n ∷ tagsBelow t n) (tagsBelow t n)
 
-unfoldable pub view : Records → List ℕ → Map
+unfoldable pub view : Records → List ℕ → RowMap
 view z places = record {
   tags = tagsBelow (z .tree) 128;
   place = λ c. tagPlace z (c .0) (c .1);
-  bytes = bytesAt (z .size .width) places;
+  content = bytesAt (z .size .width) places;
 }
 
 -- sound records with P × B bytes of places
@@ -35,9 +35,11 @@ pub record Store (z : Records) (places : List ℕ) : Type 0 where
 unfoldable pub started : Records → List ℕ → Model
 started z places = record {
   snapshots = tagsBelow (z .tree) 128;
-  bytes = λ c. bytesAt (z .size .width) places (tagPlace z (c .0) (c .1));
-  mark = λ c. tagPlace z (c .0) (c .1);
-  next = z .size .places;
+  rows = record {
+    content = λ c. bytesAt (z .size .width) places (tagPlace z (c .0) (c .1));
+    mark = λ c. tagPlace z (c .0) (c .1);
+    next = z .size .places;
+  };
 }
 
 -- THE AGREEMENT of a store with the reference model, one relation for all calls: the same tags live, every row of every living version

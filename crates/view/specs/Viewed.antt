@@ -8,18 +8,18 @@ use native.Mathlib.Decide.{ℕ-discrete}
 use native.Mathlib.Omega.{arith}
 use lib.ListN.{length}
 use Rattle.basics.specs.Decide.{Decides, decides-iff, at}
-use Rattle.records.specs.Records.{Records, table, InUse, Alive, snapshots, used}
-use Rattle.records.specs.Reading.{place, lives}
+use Rattle.records.specs.Records.{Records, table, lives}
+use Rattle.trees.specs.Trees.{InUse, Alive, snapshots, used}
+use Rattle.trees.specs.Reading.{place}
 use Rattle.records.specs.Sound.{Sound}
 use Rattle.tree.specs.Nodes.{snapshot-yes, snapshot-of}
 use Rattle.reading.specs.Reads.{place-root, place-reads}
 use Rattle.reading.specs.Used.{PlaceRead, used-read, place-low}
 use Rattle.edits.specs.Solve.{version-node, lives-node, version-lives, tag-place, origin-version}
-use Rattle.model.specs.Model.{Cell, living, alive, snapshotsAlive, placesUsed}
-use Rattle.agreement.specs.Agree.{Live}
-use Rattle.agreement.specs.Members.{In, test-iff}
-use Rattle.agreement.specs.Living.{alive-in}
-use Rattle.agreement.specs.Counting.{used-among}
+use Rattle.copies.specs.Copies.{Cell, living, alive, snapshotsAlive, placesUsed, Live}
+use Rattle.copies.specs.Members.{In, test-iff}
+use Rattle.copies.specs.Living.{alive-in}
+use Rattle.copies.specs.Counting.{used-among}
 use Rattle.view.specs.View.{tagsBelow, view}
 use Rattle.view.specs.Tags.{different-new, tags-of, tags-in, tags-different, tags-above}
 use Rattle.view.specs.Places.{rowOfPlace, reads-row, placeInUse, in-use-decides, count-in-use}

@@ -1,76 +1,22 @@
--- The ways out of a write: the last test, the effect by its cases, and the tests in a row. Assumes nothing.
-use mathlib.Core.Path.{_≡_, refl, _∙_, ap}
-use mathlib.Core.Logic.{_≢_}
-use mathlib.Core.Bool.{Bool, true, false, not, _&&_, false≢true}
-use mathlib.Core.List.{List, [], _∷_}
+-- The ways out of a write: the tests in a row. Assumes nothing.
+use mathlib.Core.Path.{_≡_, _∙_, ap}
+use mathlib.Core.Bool.{not}
+use mathlib.Core.List.{List, _∷_}
 use mathlib.Core.Option.{Option, none, some}
-use Prim.Native.Nat.{ℕ, _+_, _*_, _≤_, _<_}
+use Prim.Native.Nat.{ℕ, _*_, _<_}
 use native.Mathlib.Omega.{arith}
 use lib.Dec.{eqb, leb}
 use lib.ListN.{length}
-use borrow.Author.Tests.{eq-eqb, ne-eqb, le-leb, lt-leb, leb-true}
-use Rattle.basics.specs.Decide.{and-yes, and-no, not-yes, not-no}
-use Rattle.basics.specs.CountLaws.{count-most}
-use Rattle.records.specs.Records.{Table, Records, table, taken, used, version}
-use Rattle.records.specs.Reading.{lives}
-use Rattle.records.specs.Sound.{Sound}
-use Rattle.answers.specs.Answers.{bad-length, bad-row, unknown-tag, places-full}
+use borrow.Author.Tests.{eq-eqb, ne-eqb, le-leb, lt-leb}
+use Rattle.basics.specs.Decide.{not-yes, not-no}
+use Rattle.records.specs.Records.{Records, lives}
+use Rattle.trees.specs.Trees.{version}
+use Rattle.answers.specs.Answers.{bad-length, bad-row, unknown-tag}
 use Rattle.answers.specs.Tests.{Tests, refusal}
-use Rattle.answers.specs.Laws.{refusal-here, refusal-next, refusal-none}
-use Rattle.nodes.specs.Nodes.{firstChild}
-use Rattle.sharing.specs.Sharing.{freeEntry, sharedAt}
-use Rattle.sharing.specs.Laws.{full-used}
-use Rattle.writing.specs.Writing.{sharedBy, fullTest, writeTests, writeVerdict, inPlace, toFree, savingBy, writtenAt, written}
-
-used-most : (e : Table) → used e ≤ e .rows + length (e .node)
-unfolding used
-used-most e = omega (arith, count-most (taken e) (length (e .node)))
-
--- The last test
-
-module _ (z : Records) (s : Sound z) (v r : ℕ) where
-  pub unshared-passes : sharedAt (z .tree) (table z) v r ≡ false → refusal (fullTest z (some v) r) ≡ none
-  unfolding fullTest
-  unshared-passes h = refusal-next places-full [] (rw h) ∙ refusal-none
-
-  all-places : z .size .rows + length (z .node) ≡ z .size .places
-  all-places = let m = s .measured in omega (arith, m .nodes, m .within .places .0)
-
-  pub full-refused : sharedAt (z .tree) (table z) v r ≡ true → freeEntry (z .node) ≡ none → refusal (fullTest z (some v) r) ≡ some places-full
-  unfolding fullTest
-  full-refused h f = refusal-here places-full [] (and-yes h (le-leb (z .size .places) (used (table z)) (omega (arith, full-used (table z) .0 f, all-places))))
-
-  pub free-passes : (i : ℕ) → freeEntry (z .node) ≡ some i → refusal (fullTest z (some v) r) ≡ none
-  unfolding fullTest
-  free-passes i f = refusal-next places-full [] (go (leb (z .size .places) (used (table z))) refl) ∙ refusal-none
-    where
-      most : used (table z) ≤ z .size .rows + length (z .node)
-      most = used-most (table z)
-
-      go : (b : Bool) → leb (z .size .places) (used (table z)) ≡ b → (sharedBy z (some v) r && leb (z .size .places) (used (table z))) ≡ false
-      go false h = rw h (and-no (sharedBy z (some v) r) false (λ a b. absurd (false≢true b)))
-      go true h =
-          let n : freeEntry (z .node) ≡ none = full-used (table z) .1 (omega (arith, leb-true (z .size .places) (used (table z)) h, most, all-places)) in
-          let w : _≡_ {A = ℕ} 0 1 = cc in
-          absurd (omega arith)
-
--- The effect, by its cases
-
-module _ (z : Records) (places : List ℕ) (r : ℕ) (bs : List ℕ) (v : ℕ) where
-  pub written-in-place : sharedAt (z .tree) (table z) v r ≡ false → writtenAt z places r bs v ≡ inPlace z places r bs v
-  unfolding writtenAt
-  written-in-place h = rw h
-
-  module _ (h : sharedAt (z .tree) (table z) v r ≡ true) (i : ℕ) (f : freeEntry (z .node) ≡ some i) where
-    pub written-saving : v ≡ 0 → writtenAt z places r bs v ≡ savingBy z places r bs (firstChild (z .tree) 0) i
-    unfolding writtenAt
-    written-saving e = rw (h, f, eq-eqb v 0 e)
-
-    pub written-to-free : v ≢ 0 → writtenAt z places r bs v ≡ toFree z places r bs v i
-    unfolding writtenAt
-    written-to-free n = rw (h, f, ne-eqb v 0 n)
-
--- The tests in a row
+use Rattle.answers.specs.Laws.{refusal-here, refusal-next}
+use Rattle.unsharing.specs.Unsharing.{fullTest}
+use Rattle.storing.specs.Storing.{writtenAt}
+use Rattle.writing.specs.Writing.{writeTests, writeVerdict, written}
 
 module _ (z : Records) (places : List ℕ) (tag r : ℕ) (bs : List ℕ) where
   tagTest : Tests

@@ -8,7 +8,8 @@ use Rattle.soundness.specs.Judged.{judged-sound, judged-unsound, leaves-refused
 use Rattle.answers.specs.Answers.{origin-tag, unknown-tag}
 use Rattle.tree.specs.Rules.{found-at, found-missing}
 use Rattle.records.specs.Sound.{Sound}
-use Rattle.records.specs.Records.{recordsOf, version}
+use Rattle.records.specs.Records.{recordsOf}
+use Rattle.trees.specs.Trees.{version}
 use Rattle.basics.specs.Decide.{passed, failed}
 use Rattle.deleting.proofs.delete_marked.Statement.{statement}
 use Rattle.deleting.proofs.delete_marked.Tie as tie

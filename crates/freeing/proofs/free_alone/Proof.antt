@@ -5,7 +5,7 @@ use mathlib.Core.Path.{sym, _∙_}
 use mathlib.Core.Logic.{⊎-elim}
 use native.Mathlib.Omega.{arith}
 use lib.ListN.{length}
-use Rattle.records.specs.Records.{treeOf, tableOf}
+use Rattle.trees.specs.Trees.{treeOf, tableOf}
 use Rattle.freeing.specs.Laws.{FreedTo, freed-start, freed-next, freed-skip, freed-set, freed-end, asking, alone-lonely, alone-not}
 use Rattle.basics.specs.Decide.{holds, fails}
 use Rattle.freeing.proofs.free_alone.Statement.{statement}
@@ -20,23 +20,23 @@ abbrev μ-loop : tie.MeasureT-loop
 loop-holds : tie.Need-loop-holds Inv-loop μ-loop
 loop-holds c = freed-start _ _ _
 
-slice-read-wide : tie.Need-slice-read-wide Inv-loop μ-loop
-slice-read-wide c = search needs
+slice-read-byte : tie.Need-slice-read-byte Inv-loop μ-loop
+slice-read-byte c = search needs
 
-wide-requires : tie.Need-wide-requires Inv-loop μ-loop
-wide-requires c κs = search needs
+byte-requires : tie.Need-byte-requires Inv-loop μ-loop
+byte-requires c κs = search needs
 
-mul-wide16 : tie.Need-mul-wide16 Inv-loop μ-loop
-mul-wide16 c = search needs
+mul-pair : tie.Need-mul-pair Inv-loop μ-loop
+mul-pair c = search needs
 
-slice-read-wide16 : tie.Need-slice-read-wide16 Inv-loop μ-loop
-slice-read-wide16 c =
+slice-read-pair : tie.Need-slice-read-pair Inv-loop μ-loop
+slice-read-pair c =
     let t = c .before .before .before in
     let d = t .before .loop .inv in
     omega (arith, t .loop-test .taken, d .nodes, d .rows, t .before .before .before .before .before .pre .1 .fitting .halves)
 
-wide16-requires : tie.Need-wide16-requires Inv-loop μ-loop
-wide16-requires c κs = search needs
+pair-requires : tie.Need-pair-requires Inv-loop μ-loop
+pair-requires c κs = search needs
 
 alone-requires : tie.Need-alone-requires Inv-loop μ-loop
 alone-requires c κs =
@@ -45,7 +45,7 @@ alone-requires c κs =
     let d = t .before .loop .inv in
     let p = t .before .before .before .before .before .pre in
     let x = freed-next _ _ _ _ _ _ d in
-    asking _ _ _ (p .1) _ (p .0) (t .before .loop .i) (omega (arith, t .loop-test .taken, d .nodes)) _ _ (w .wide .ensures ∙ x .0) (c .wide16 .ensures ∙ x .1)
+    asking _ _ _ (p .1) _ (p .0) (t .before .loop .i) (omega (arith, t .loop-test .taken, d .nodes)) _ _ (w .byte .ensures ∙ x .0) (c .pair .ensures ∙ x .1)
 
 slice-write-node : tie.Need-slice-write-node Inv-loop μ-loop
 slice-write-node c = search needs
@@ -79,7 +79,7 @@ loop-again c =
     let i = t .before .loop .i in
     let x = freed-next _ _ _ _ _ _ d in
     let l : i < length (s .args .node .now) = omega (arith, t .loop-test .taken, d .nodes) in
-    let r = rw (w .wide .ensures ∙ x .0, k .wide16 .ensures ∙ x .1) at (a .alone .ensures) in
+    let r = rw (w .byte .ensures ∙ x .0, k .pair .ensures ∙ x .1) at (a .alone .ensures) in
     ⊎-elim
     (λ m. rw (m .1, m .2) (freed-set _ _ _ i _ _ d (t .loop-test .taken) (d .rows ∙ p .1 .fitting .halves ∙ sym (d .nodes)) (alone-lonely _ _ _ (p .1) _ (p .0) i l (holds (a .alone .result) r (m .0 .taken)))))
     (λ m. rw (m .1, m .2) (freed-skip _ _ _ i _ _ d (alone-not _ _ _ (p .1) _ (p .0) i l (fails (a .alone .result) r (m .0 .left)))))
@@ -103,11 +103,11 @@ free-alone-spec =
     Inv-loop
     μ-loop
     loop-holds
-    slice-read-wide
-    wide-requires
-    mul-wide16
-    slice-read-wide16
-    wide16-requires
+    slice-read-byte
+    byte-requires
+    mul-pair
+    slice-read-pair
+    pair-requires
     alone-requires
     slice-write-node
     mul-row

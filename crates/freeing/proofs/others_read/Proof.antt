@@ -3,7 +3,7 @@ use borrow.Author.Needs.{needs}
 use Prim.Native.Nat.{ℕ, _≤_, _<_, _-_}
 use native.Mathlib.Omega.{arith}
 use borrow.Author.Count.{below-more}
-use Rattle.records.specs.Records.{treeOf}
+use Rattle.trees.specs.Trees.{treeOf}
 use Rattle.freeing.specs.Freeing.{OtherMeets}
 use Rattle.basics.specs.Decide.{holds, fails}
 use Rattle.freeing.proofs.others_read.Statement.{statement}

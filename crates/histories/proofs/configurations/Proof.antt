@@ -7,11 +7,10 @@ use Rattle.histories.proofs.configurations.Statement.{statement}
 use Rattle.histories.proofs.configurations.Tie as tie
 
 abbrev Inv-loop : tie.InvT-loop
-Inv-loop node₀ row₀ places₀ tally₀ k₀ node row places tally k =
-    (k ≤ 11) × (length node ≡ length node₀) × (length row ≡ length row₀) × (length places ≡ length places₀) × (length tally ≡ length tally₀)
+Inv-loop tally₀ k₀ tally k = (k ≤ 11) × (length tally ≡ length tally₀)
 
 abbrev μ-loop : tie.MeasureT-loop
-μ-loop node₀ row₀ places₀ tally₀ k₀ node row places tally k = 11 - k
+μ-loop tally₀ k₀ tally k = 11 - k
 
 loop-holds : tie.Need-loop-holds Inv-loop μ-loop
 loop-holds c = search needs
@@ -34,15 +33,6 @@ loop-again c = search needs
 same-length : tie.Need-same-length Inv-loop μ-loop
 same-length c = search needs
 
-same-length-2 : tie.Need-same-length-2 Inv-loop μ-loop
-same-length-2 c = search needs
-
-same-length-3 : tie.Need-same-length-3 Inv-loop μ-loop
-same-length-3 c = search needs
-
-same-length-4 : tie.Need-same-length-4 Inv-loop μ-loop
-same-length-4 c = search needs
-
 returns : tie.Need-returns Inv-loop μ-loop
 returns c = search needs
 
@@ -59,7 +49,4 @@ configurations-spec =
     loop-less
     loop-again
     same-length
-    same-length-2
-    same-length-3
-    same-length-4
     returns)

@@ -8,32 +8,32 @@ use Rattle.layout.proofs.size.Tie as tie
 number-requires : tie.Need-number-requires
 number-requires c κs = search needs
 
-wide-requires : tie.Need-wide-requires
-wide-requires c κs = search needs
+pair-requires : tie.Need-pair-requires
+pair-requires c κs = search needs
 
 number-requires-2 : tie.Need-number-requires-2
 number-requires-2 c κs = search needs
 
-wide-requires-2 : tie.Need-wide-requires-2
-wide-requires-2 c κs = search needs
+pair-requires-2 : tie.Need-pair-requires-2
+pair-requires-2 c κs = search needs
 
 number-requires-3 : tie.Need-number-requires-3
 number-requires-3 c κs = search needs
 
-wide-requires-3 : tie.Need-wide-requires-3
-wide-requires-3 c κs = search needs
+pair-requires-3 : tie.Need-pair-requires-3
+pair-requires-3 c κs = search needs
 
 returns : tie.Need-returns
-returns c = size-same (c .before .before .before .before .wide .ensures ∙ c .before .before .before .before .before .number .ensures) (c .before .before .wide2 .ensures ∙ c .before .before .before .number2 .ensures) (c .wide3 .ensures ∙ c .before .number3 .ensures)
+returns c = size-same (c .before .before .before .before .pair .ensures ∙ c .before .before .before .before .before .number .ensures) (c .before .before .pair2 .ensures ∙ c .before .before .before .number2 .ensures) (c .pair3 .ensures ∙ c .before .number3 .ensures)
 
 pub size-spec : {M : Type 1} → statement M
 size-spec =
     tie.close
     (tie.spec
     number-requires
-    wide-requires
+    pair-requires
     number-requires-2
-    wide-requires-2
+    pair-requires-2
     number-requires-3
-    wide-requires-3
+    pair-requires-3
     returns)

@@ -3,8 +3,8 @@ use mathlib.Core.Path.{_≡_, refl}
 use Prim.Native.Nat.{_<_}
 use contract.Monad.{fact}
 use Rattle.lending.specs.Lending.{filled}
-use Rattle.records.proofs.Tree as tree
-use Rattle.records.proofs.Tree.Laws as tree-laws
+use Rattle.trees.proofs.Tree as tree
+use Rattle.trees.proofs.Tree.Laws as tree-laws
 use Rattle.lending.proofs.Node as node
 use Rattle.lending.proofs.Node.Laws as node-laws
 use Rattle.lending.proofs.Thin.{thin}

@@ -6,7 +6,7 @@ use mathlib.Core.Logic.{⊎-elim, _≢_}
 use mathlib.Core.Option.{none}
 use native.Mathlib.Omega.{arith}
 use Rattle.nodes.specs.Nodes.{firstChild, child-start, child-here, child-past}
-use Rattle.records.specs.Records.{treeOf, isChild}
+use Rattle.trees.specs.Trees.{treeOf, isChild}
 use Rattle.basics.specs.Count.{first}
 use Rattle.nodes.proofs.child.Statement.{statement}
 use Rattle.nodes.proofs.child.Tie as tie
@@ -23,11 +23,11 @@ loop-holds c = (omega arith, omega arith, child-start _ _)
 element-copy-out-if1 : tie.Need-element-copy-out-if1 Inv-loop μ-loop
 element-copy-out-if1 c = search needs
 
-element-copy-out-wide : tie.Need-element-copy-out-wide Inv-loop μ-loop
-element-copy-out-wide c = search needs
+element-copy-out-byte : tie.Need-element-copy-out-byte Inv-loop μ-loop
+element-copy-out-byte c = search needs
 
-wide-requires : tie.Need-wide-requires Inv-loop μ-loop
-wide-requires c κs = search needs
+byte-requires : tie.Need-byte-requires Inv-loop μ-loop
+byte-requires c κs = search needs
 
 returns : tie.Need-returns Inv-loop μ-loop
 returns c =
@@ -35,7 +35,7 @@ returns c =
     let l = i .before .before in
     let v = l .before .loop .inv in
     let z : l .before .loop .n ≢ 0 = λ e. omega (arith, v .0) in
-    rw (child-here _ _ _ (v .2) (z, (l .loop-test .taken, i .if1 .taken), sym (c .before .wide .ensures) ∙ c .if2 .taken))
+    rw (child-here _ _ _ (v .2) (z, (l .loop-test .taken, i .if1 .taken), sym (c .before .byte .ensures) ∙ c .if2 .taken))
 
 add-n : tie.Need-add-n Inv-loop μ-loop
 add-n c = search needs
@@ -70,8 +70,8 @@ child-spec =
     μ-loop
     loop-holds
     element-copy-out-if1
-    element-copy-out-wide
-    wide-requires
+    element-copy-out-byte
+    byte-requires
     returns
     add-n
     loop-less

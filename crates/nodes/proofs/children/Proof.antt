@@ -5,7 +5,7 @@ use mathlib.Core.Path.{_≡_, sym, _∙_}
 use mathlib.Core.Logic.{_≢_, ⊎-elim}
 use native.Mathlib.Omega.{arith}
 use Rattle.nodes.specs.Nodes.{children-start, children-more, children-same}
-use Rattle.records.specs.Records.{treeOf, isChild, children}
+use Rattle.trees.specs.Trees.{treeOf, isChild, children}
 use Rattle.basics.specs.Count.{count}
 use Rattle.nodes.proofs.children.Statement.{statement}
 use Rattle.nodes.proofs.children.Tie as tie
@@ -22,11 +22,11 @@ loop-holds c = (omega arith, omega arith, omega arith, sym (children-start _ _))
 element-copy-out-if1 : tie.Need-element-copy-out-if1 Inv-loop μ-loop
 element-copy-out-if1 c = search needs
 
-element-copy-out-wide : tie.Need-element-copy-out-wide Inv-loop μ-loop
-element-copy-out-wide c = search needs
+element-copy-out-byte : tie.Need-element-copy-out-byte Inv-loop μ-loop
+element-copy-out-byte c = search needs
 
-wide-requires : tie.Need-wide-requires Inv-loop μ-loop
-wide-requires c κs = search needs
+byte-requires : tie.Need-byte-requires Inv-loop μ-loop
+byte-requires c κs = search needs
 
 add-sum : tie.Need-add-sum Inv-loop μ-loop
 add-sum c = search needs
@@ -70,8 +70,8 @@ children-spec =
     μ-loop
     loop-holds
     element-copy-out-if1
-    element-copy-out-wide
-    wide-requires
+    element-copy-out-byte
+    byte-requires
     add-sum
     add-n
     loop-less

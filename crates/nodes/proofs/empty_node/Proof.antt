@@ -4,7 +4,7 @@ use Prim.Native.Nat.{_-_}
 use mathlib.Core.Path.{_≡_}
 use native.Mathlib.Omega.{arith}
 use Rattle.nodes.specs.Nodes.{Passing, passing-start, passing-next, passing-stop, passing-over}
-use Rattle.records.specs.Records.{treeOf}
+use Rattle.trees.specs.Trees.{treeOf}
 use Rattle.nodes.proofs.empty_node.Statement.{statement}
 use Rattle.nodes.proofs.empty_node.Tie as tie
 

@@ -6,7 +6,8 @@ use Prim.Native.Nat.{_<_}
 use native.Mathlib.Nat.{mul-le-mul}
 use native.Mathlib.Omega.{arith}
 use Rattle.basics.specs.Decide.{passed, failed}
-use Rattle.records.specs.Records.{recordsOf, version}
+use Rattle.records.specs.Records.{recordsOf}
+use Rattle.trees.specs.Trees.{version}
 use Rattle.records.specs.Sound.{Sound}
 use Rattle.tree.specs.Rules.{found-at, found-missing}
 use Rattle.queries.specs.Laws.{read-unsound, read-length, read-row, read-tag, read-done, version-used, looking, read-inside}

@@ -6,8 +6,8 @@ use native.Mathlib.Omega.{arith}
 use Rattle.reading.specs.Lookup.{Rising, rise-start, rise-root, rise-own, rise-up, rise-over}
 use Rattle.reading.specs.Reads.{entry-some}
 use Rattle.tree.specs.Rules.{found-at, found-missing}
-use Rattle.records.specs.Reading.{entry}
-use Rattle.records.specs.Records.{treeOf, tableOf}
+use Rattle.trees.specs.Reading.{entry}
+use Rattle.trees.specs.Trees.{treeOf, tableOf}
 use Rattle.reading.proofs.lookup.Statement.{statement}
 use Rattle.reading.proofs.lookup.Tie as tie
 
@@ -28,11 +28,11 @@ returns c =
     let i = c .before in
     c .home .ensures ∙ sym (rise-root _ _ _ _ _ _ (i .before .before .loop .inv) (i .if1 .taken))
 
-element-copy-out-wide : tie.Need-element-copy-out-wide Inv-loop μ-loop
-element-copy-out-wide c = search needs
+element-copy-out-byte : tie.Need-element-copy-out-byte Inv-loop μ-loop
+element-copy-out-byte c = search needs
 
-wide-requires : tie.Need-wide-requires Inv-loop μ-loop
-wide-requires c κs = search needs
+byte-requires : tie.Need-byte-requires Inv-loop μ-loop
+byte-requires c κs = search needs
 
 own-entry-requires : tie.Need-own-entry-requires Inv-loop μ-loop
 own-entry-requires c κs = c .before .before .before .before .before .before .before .pre .halves
@@ -82,7 +82,7 @@ loop-again c =
     let m = l .before .loop .m in
     let v = l .before .loop .inv in
     let h = found-missing (entry e m (s .args .r .0)) (sym (c .enum-told .given .1) ∙ o .own-entry .ensures) in
-    rw (w .wide .ensures) (rise-up _ _ _ _ _ _ (l .loop-test .taken) v (z .if1 .left) h (s .pre .climbs .parents m (v .used .0) (z .if1 .left) (v .used)))
+    rw (w .byte .ensures) (rise-up _ _ _ _ _ _ (l .loop-test .taken) v (z .if1 .left) h (s .pre .climbs .parents m (v .used .0) (z .if1 .left) (v .used)))
 
 home-requires-2 : tie.Need-home-requires-2 Inv-loop μ-loop
 home-requires-2 c κs = search needs
@@ -101,8 +101,8 @@ lookup-spec =
     loop-holds
     home-requires
     returns
-    element-copy-out-wide
-    wide-requires
+    element-copy-out-byte
+    byte-requires
     own-entry-requires
     enum-known-found
     held-requires

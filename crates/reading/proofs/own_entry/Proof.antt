@@ -7,8 +7,8 @@ use mathlib.Core.Option.{none}
 use native.Mathlib.Omega.{arith}
 use lib.ListN.{length}
 use Rattle.reading.specs.Lookup.{entry-here, entry-past}
-use Rattle.records.specs.Reading.{owns, entry}
-use Rattle.records.specs.Records.{tableOf}
+use Rattle.trees.specs.Reading.{owns, entry}
+use Rattle.trees.specs.Trees.{tableOf}
 use Rattle.basics.specs.CountLaws.{first-start}
 use Rattle.basics.specs.Count.{first}
 use Rattle.basics.specs.Decide.{holds, fails}
@@ -24,11 +24,11 @@ abbrev μ-loop : tie.MeasureT-loop
 loop-holds : tie.Need-loop-holds Inv-loop μ-loop
 loop-holds c = (omega arith, c .before .before .pre, first-start _)
 
-shared-slice-read-wide : tie.Need-shared-slice-read-wide Inv-loop μ-loop
-shared-slice-read-wide c = search needs
+shared-slice-read-byte : tie.Need-shared-slice-read-byte Inv-loop μ-loop
+shared-slice-read-byte c = search needs
 
-wide-requires : tie.Need-wide-requires Inv-loop μ-loop
-wide-requires c κs = search needs
+byte-requires : tie.Need-byte-requires Inv-loop μ-loop
+byte-requires c κs = search needs
 
 mul-is-row : tie.Need-mul-is-row Inv-loop μ-loop
 mul-is-row c = search needs
@@ -44,7 +44,7 @@ returns c =
     let q = c .before in
     let w = q .before .before .before in
     let l = w .before .before in
-    rw (entry-here _ _ _ _ (l .loop-test .taken) (l .before .loop .inv .2) (sym (w .wide .ensures) ∙ q .before .before .if1 .taken) (holds (q .is-row .result) (q .is-row .ensures) (c .if2 .taken)))
+    rw (entry-here _ _ _ _ (l .loop-test .taken) (l .before .loop .inv .2) (sym (w .byte .ensures) ∙ q .before .before .if1 .taken) (holds (q .is-row .result) (q .is-row .ensures) (c .if2 .taken)))
 
 add-i : tie.Need-add-i Inv-loop μ-loop
 add-i c = search needs
@@ -61,7 +61,7 @@ loop-again c =
       v .1,
       entry-past _ _ _ _ (l .loop-test .taken) (v .2) (⊎-elim
           (λ s a. fails (s .2 .result) (s .2 .ensures) (s .3 .left))
-          (λ s a b. s .left (w .wide .ensures ∙ a))
+          (λ s a b. s .left (w .byte .ensures ∙ a))
           (c .if1 .came)),
     )
 
@@ -79,8 +79,8 @@ own-entry-spec =
     Inv-loop
     μ-loop
     loop-holds
-    shared-slice-read-wide
-    wide-requires
+    shared-slice-read-byte
+    byte-requires
     mul-is-row
     shared-slice-read-is-row
     is-row-requires

@@ -6,7 +6,7 @@ use mathlib.Core.Logic.{⊎-elim}
 use native.Mathlib.Omega.{arith}
 use lib.ListN.{length}
 use Rattle.reading.specs.Lookup.{taken-yes, taken-no}
-use Rattle.records.specs.Records.{tableOf, taken, used}
+use Rattle.trees.specs.Trees.{tableOf, taken, used}
 use Rattle.basics.specs.CountLaws.{count-none}
 use Rattle.basics.specs.Count.{count}
 use Rattle.reading.proofs.used.Statement.{statement}

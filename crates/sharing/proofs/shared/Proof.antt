@@ -3,7 +3,7 @@ use borrow.Author.Needs.{needs}
 use Prim.Native.Nat.{_-_}
 use mathlib.Core.Logic.{⊎-elim}
 use Rattle.sharing.specs.Laws.{Alone, looking, looking-alive, alone-start, alone-next, alone-over, shared-by, not-shared-by}
-use Rattle.records.specs.Records.{treeOf, tableOf}
+use Rattle.trees.specs.Trees.{treeOf, tableOf}
 use Rattle.basics.specs.Decide.{holds, fails}
 use Rattle.sharing.proofs.shared.Statement.{statement}
 use Rattle.sharing.proofs.shared.Tie as tie

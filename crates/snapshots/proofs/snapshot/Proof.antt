@@ -9,7 +9,8 @@ use Rattle.tree.specs.Nodes.{version-alive}
 use Rattle.tree.specs.Rules.{found-at, found-missing}
 use Rattle.answers.specs.Answers.{zero-tag, unknown-tag, tag-alive, snapshots-full}
 use Rattle.records.specs.Sound.{Sound}
-use Rattle.records.specs.Records.{recordsOf, version}
+use Rattle.records.specs.Records.{recordsOf}
+use Rattle.trees.specs.Trees.{version}
 use Rattle.basics.specs.Decide.{passed, failed}
 use Rattle.snapshots.proofs.snapshot.Statement.{statement}
 use Rattle.snapshots.proofs.snapshot.Tie as tie

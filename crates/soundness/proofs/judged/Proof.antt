@@ -20,7 +20,7 @@ measured c =
     record { within = sized (n .before .before); nodes = n .if2 .left; rows = c .if3 .left }
 
 grown : (c : tie.Else4) → TreeSound (c .before .before .before .before .before .before .before .before .before .before .before .before .before .before .before .args .t2)
-grown c = passed (c .before .sound .result) (c .before .sound .ensures) (c .if4 .left)
+grown c = passed (c .before .tree-sound .result) (c .before .tree-sound .ensures) (c .if4 .left)
 
 within-requires : tie.Need-within-requires
 within-requires c κs = search needs
@@ -40,14 +40,14 @@ sub-if3 c = sized (c .before .before .before) .places .0
 returns-3 : tie.Need-returns-3
 returns-3 c = verdict-no _ _ _ (λ s. c .if3 .taken (s .measured .rows))
 
-sound-requires : tie.Need-sound-requires
-sound-requires c κs = search needs
+tree-sound-requires : tie.Need-tree-sound-requires
+tree-sound-requires c κs = search needs
 
 returns-4 : tie.Need-returns-4
-returns-4 c = verdict-no _ _ _ (λ s. failed (c .before .sound .result) (c .before .sound .ensures) (c .if4 .taken) (tree-of _ s))
+returns-4 c = verdict-no _ _ _ (λ s. failed (c .before .tree-sound .result) (c .before .tree-sound .ensures) (c .if4 .taken) (tree-of _ s))
 
-judged-requires : tie.Need-judged-requires
-judged-requires c κs =
+table-sound-requires : tie.Need-table-sound-requires
+table-sound-requires c κs =
     let t = c .before .before .before .before .before in
     (fitting _ (measured (t .before .before .before .before .before .before)) (grown t .linked), t .before .before .before .before .before .before .before .before .before .before .before .before .before .before .before .pre)
 
@@ -56,7 +56,7 @@ same-length c = search needs
 
 returns-5 : tie.Need-returns-5
 returns-5 c =
-    let j = c .before .before .before .judged in
+    let j = c .before .before .before .table-sound in
     verdict-no _ _ _ (λ s. failed (j .result) (j .ensures .decided) (c .if5 .taken) (table-of _ s))
 
 same-length-2 : tie.Need-same-length-2
@@ -67,8 +67,8 @@ returns-6 c =
     let j = c .before .before .before in
     let t = j .before .before .before .before .before .before in
     record {
-      decided = sound-of _ (measured (t .before .before .before .before .before .before)) (grown t) (passed (j .judged .result) (j .judged .ensures .decided) (c .if5 .left));
-      marked = λ x. j .judged .ensures .marked (not-false _ (c .if5 .left));
+      decided = sound-of _ (measured (t .before .before .before .before .before .before)) (grown t) (passed (j .table-sound .result) (j .table-sound .ensures .decided) (c .if5 .left));
+      marked = λ x. j .table-sound .ensures .marked (not-false _ (c .if5 .left));
     }
 
 pub judged-spec : {M : Type 1} → statement M
@@ -81,9 +81,9 @@ judged-spec =
     returns-2
     sub-if3
     returns-3
-    sound-requires
+    tree-sound-requires
     returns-4
-    judged-requires
+    table-sound-requires
     same-length
     returns-5
     same-length-2

@@ -4,7 +4,7 @@ use Prim.Native.Nat.{_-_}
 use mathlib.Core.Path.{_≡_, sym, _∙_}
 use mathlib.Core.Logic.{_↔_}
 use native.Mathlib.Omega.{arith}
-use Rattle.records.specs.Records.{treeOf}
+use Rattle.trees.specs.Trees.{treeOf}
 use Rattle.table.specs.Laws.{meets-up, meets-root, meets-marked, climb-ends}
 use Rattle.table.specs.Rules.{Meets, here}
 use Rattle.tree.specs.Loops.{Climbing, climb-start, climb-step}
@@ -40,11 +40,11 @@ returns-3 c = λ d.
     let a = l .before .before .args in
     meets-marked _ (a .marks .now) _ _ (e .before .if1 .left) (rw (p .slot .ensures) at (sym (c .before .has .ensures) ∙ c .if3 .taken)) (l .loop .inv .1 .0 d)
 
-element-copy-out-wide : tie.Need-element-copy-out-wide Inv-loop μ-loop
-element-copy-out-wide c = search needs
+element-copy-out-byte : tie.Need-element-copy-out-byte Inv-loop μ-loop
+element-copy-out-byte c = search needs
 
-wide-requires : tie.Need-wide-requires Inv-loop μ-loop
-wide-requires c κs = search needs
+byte-requires : tie.Need-byte-requires Inv-loop μ-loop
+byte-requires c κs = search needs
 
 add-k : tie.Need-add-k Inv-loop μ-loop
 add-k c = search needs
@@ -61,7 +61,7 @@ loop-again c =
     let a = l .before .before .args in
     let v = l .loop .inv in
     let h = meets-up _ (a .marks .now) _ _ (z .before .if1 .left) (z .if2 .left) (rw (p .slot .ensures) at (sym (f .before .has .ensures) ∙ f .if3 .left)) in
-    rw (c .wide .ensures) (
+    rw (c .byte .ensures) (
       climb-step _ _ _ _ (λ n k. l .before .before .pre .seeking .linked .parent n) (z .before .before .loop-test .taken) (z .if2 .left) (v .0),
       (λ d. h .0 (v .1 .0 d), λ d. v .1 .1 (h .1 d)),
     )
@@ -85,8 +85,8 @@ meets-spec =
     slot-requires
     has-requires
     returns-3
-    element-copy-out-wide
-    wide-requires
+    element-copy-out-byte
+    byte-requires
     add-k
     loop-less
     loop-again

@@ -1,7 +1,8 @@
 -- `text::row_line` meets its contract. Assumes nothing.
 use borrow.Author.Needs.{needs}
 use native.Mathlib.Omega.{arith}
-use Rattle.text.specs.Laws.{head-room, hex-room, line-laid}
+use Rattle.digits.specs.Laws.{hex-room}
+use Rattle.text.specs.Laws.{head-room, line-laid}
 use Rattle.text.proofs.row_line.Statement.{statement}
 use Rattle.text.proofs.row_line.Tie as tie
 

@@ -6,7 +6,7 @@ use mathlib.Core.Logic.{⊎-elim}
 use native.Mathlib.Omega.{arith}
 use Rattle.tree.specs.Loops.{snapshots-first, snapshot-past}
 use Rattle.tree.specs.Nodes.{snapshot-yes}
-use Rattle.records.specs.Records.{treeOf, isSnapshot, snapshots}
+use Rattle.trees.specs.Trees.{treeOf, isSnapshot, snapshots}
 use Rattle.basics.specs.CountLaws.{count-yes}
 use Rattle.basics.specs.Count.{count}
 use Rattle.tree.proofs.snapshots.Statement.{statement}

@@ -7,7 +7,7 @@ use mathlib.Core.Option.{none}
 use native.Mathlib.Omega.{arith}
 use Rattle.basics.specs.CountLaws.{first-start}
 use Rattle.tree.specs.Loops.{version-here, version-past}
-use Rattle.records.specs.Records.{treeOf, isVersion, version}
+use Rattle.trees.specs.Trees.{treeOf, isVersion, version}
 use Rattle.basics.specs.Count.{first}
 use Rattle.tree.proofs.version.Statement.{statement}
 use Rattle.tree.proofs.version.Tie as tie

@@ -1,9 +1,0 @@
--- `commands::moved` meets its contract. Assumes nothing.
-use Rattle.commands.proofs.Readers.{moves}
-use Rattle.commands.proofs.moved.Key.{name}
-use Rattle.commands.proofs.moved.Statement.{statement}
-use Rattle.commands.proofs.moved.Code as code
-
-pub moved-spec : {M : Type 1} → statement M
-unfolding code.routine
-moved-spec 𝓤 H 𝓜 𝓖 𝓡 = moves 𝓤 H 𝓜 𝓖 𝓡 code.env name (code.unfolded 𝓤 H 𝓜 𝓡)

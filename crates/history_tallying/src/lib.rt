@@ -1,0 +1,114 @@
+// The tally of the test: what is counted of a configuration and of the whole run, and where the run is.
+use history_numbers::add;
+use history_numbers::put;
+use history_numbers::sum;
+use history_plans::Call;
+use history_plans::DELETE;
+use history_plans::SNAPSHOT;
+use trees::Tree;
+
+// Of a configuration.
+pub const CALLS: usize = 0;
+
+pub const REFUSED: usize = 1;
+
+pub const SNAPSHOTS: usize = 2;
+
+pub const DELETES: usize = 3;
+
+pub const DIFFERENCES: usize = 4;
+
+// Of the whole run; and the seed, the call and the dice that it is at.
+pub const TOTAL: usize = 5;
+
+pub const SEED: usize = 6;
+
+pub const CALL: usize = 7;
+
+pub const DICE: usize = 8;
+
+// From here on, how often each answer was given.
+pub const SEEN: usize = 9;
+
+// Nodes deleted in the whole run, by their children; and those that stood under a ghost.
+pub const LEAVES: usize = 265;
+
+pub const SINGLE: usize = 266;
+
+pub const SEVERAL: usize = 267;
+
+pub const UNDER_GHOST: usize = 268;
+
+// A configuration begins.
+pub fn clear(tally: &mut [usize]) {
+    put(tally, CALLS, 0);
+    put(tally, REFUSED, 0);
+    put(tally, SNAPSHOTS, 0);
+    put(tally, DELETES, 0);
+    put(tally, DIFFERENCES, 0);
+}
+
+// A history begins.
+pub fn begin(tally: &mut [usize], seed: usize, dice: usize) {
+    put(tally, SEED, seed);
+    put(tally, CALL, 0);
+    put(tally, DICE, dice);
+}
+
+fn add_if(tally: &mut [usize], i: usize, yes: bool) {
+    if yes {
+        add(tally, i);
+    }
+}
+
+// Where a node with n children is counted.
+fn shape(n: usize) -> usize {
+    if n > 1 {
+        return SEVERAL;
+    }
+    sum(LEAVES, n)
+}
+
+fn children(tree: Tree, n: usize) -> usize {
+    nodes::children(&tree.state, &tree.tag, &tree.parent, n)
+}
+
+fn is_ghost(tree: Tree, n: usize) -> bool {
+    if n < 128 {
+        return tree.state[n] == 2;
+    }
+    false
+}
+
+// The shape of the node that a delete takes away.
+fn count_shape(tally: &mut [usize], tree: Tree, tag: u16) {
+    let n = history_sharers::node_of(tree, tag);
+    add(tally, shape(children(tree, n)));
+    add_if(
+        tally,
+        UNDER_GHOST,
+        is_ghost(tree, history_sharers::parent_of(tree, n)),
+    );
+}
+
+// A call that was not refused, on the tree before it.
+fn count_kind(tally: &mut [usize], tree: Tree, call: Call) {
+    add_if(tally, SNAPSHOTS, call.kind == SNAPSHOT);
+    if call.kind == DELETE {
+        add(tally, DELETES);
+        count_shape(tally, tree, call.tag);
+    }
+}
+
+// A call with its answer, on the tree before it.
+pub fn count(tally: &mut [usize], tree: Tree, call: Call, answer: u8) {
+    put(tally, DICE, call.dice);
+    add(tally, CALL);
+    add(tally, CALLS);
+    add(tally, sum(SEEN, widen::byte(answer)));
+    if answer == 0 {
+        count_kind(tally, tree, call);
+    } else {
+        add(tally, REFUSED);
+    }
+}

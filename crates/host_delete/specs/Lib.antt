@@ -1,0 +1,2 @@
+pub mod Deletes
+pub mod Laws

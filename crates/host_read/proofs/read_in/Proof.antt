@@ -1,0 +1,43 @@
+-- `host_read::read_in` meets its contract. Assumes nothing.
+use borrow.Author.Needs.{needs}
+use Rattle.records.specs.Records.{recordsOf}
+use Rattle.host_read.specs.Laws.{read-size, read-host}
+use Rattle.host_read.proofs.read_in.Statement.{statement}
+use Rattle.host_read.proofs.read_in.Tie as tie
+
+size-requires : tie.Need-size-requires
+size-requires c κs = search needs
+
+load-requires : tie.Need-load-requires
+load-requires c κs = search needs
+
+read-requires : tie.Need-read-requires
+read-requires c κs = search needs
+
+copy-row-requires : tie.Need-copy-row-requires
+copy-row-requires c κs = λ e. read-size (recordsOf _ _ _ _) _ _ _ (c .before .read .ensures .0) e
+
+same-length : tie.Need-same-length
+same-length c = search needs
+
+same-length-2 : tie.Need-same-length-2
+same-length-2 c = search needs
+
+same-length-3 : tie.Need-same-length-3
+same-length-3 c = search needs
+
+returns : tie.Need-returns
+returns c = read-host (c .before .before .before .before .before .before .before .before .before .before .before .before .before .before .before .before .before .before .before .before .before .pre .fits) (c .before .before .before .before .before .before .before .before .before .before .before .before .before .before .before .size .ensures) (c .before .before .before .before .before .before .before .before .before .before .before .before .load .ensures) _ _ _ (c .before .before .before .before .read .ensures .0) (c .before .before .copy-row .ensures)
+
+pub read-in-spec : {M : Type 1} → statement M
+read-in-spec =
+    tie.close
+    (tie.spec
+    size-requires
+    load-requires
+    read-requires
+    copy-row-requires
+    same-length
+    same-length-2
+    same-length-3
+    returns)

@@ -1,0 +1,59 @@
+// A read, the records being bytes. The table is loaded into buffers of its own.
+ghost use mathlib.Core.Path.{_≡_};
+ghost use lib.ListN.{length};
+ghost use Rattle.host.specs.Host.{Ready};
+ghost use Rattle.host_read.specs.Reads.{HostReads, Copied};
+use measures::Row;
+use measures::Size;
+
+// A row of the version with a tag is copied to `out`. Refusals: 20, 2, 3, 21.
+pub fn read(records: &[u8], places: &[u8], tag: u16, r: Row, out: &mut [u8]) -> u8
+    ensures { λ answer. ⌜ HostReads (now (records .entry)) (now (places .entry)) tag (r .0) (now (out .entry)) answer (now (out .exit)) ⌝ }
+{
+    if !layout::fits(records) {
+        return 20;
+    }
+    let n = layout::entries(records);
+    let mut node = [0u8; 4096];
+    let mut row = [0u16; 4096];
+    read_in(records, &mut node[..n], &mut row[..n], places, tag, r, out)
+}
+
+// The same, with buffers lent for the table.
+fn read_in<'a>(
+    records: &[u8],
+    node: &mut [u8],
+    row: &mut [u16],
+    places: &'a [u8],
+    tag: u16,
+    r: Row,
+    out: &mut [u8],
+) -> u8
+    requires { ⌜ Ready (now records) (now node) (now row) ⌝ }
+    ensures { λ answer. ⌜ HostReads (now (records .entry)) (now (places .entry)) tag (r .0) (now (out .entry)) answer (now (out .exit)) ⌝ }
+{
+    let size = layout::size(records);
+    let tree = loading::load(records, node, row);
+    let mut answer: u8 = 0;
+    let bytes = queries::read(size, tree, node, row, places, tag, r, &mut answer);
+    let number = answer;
+    copy_row(size, number, bytes, out)
+}
+
+// The row, where it was read and fits. A buffer of another length is refused after unsound records and before a row.
+fn copy_row(size: Size, number: u8, bytes: &[u8], out: &mut [u8]) -> u8
+    requires { ⌜ (number ≡ 0 → length (now bytes) ≡ size .width) ⌝ }
+    ensures { λ answer. ⌜ Copied (size .width) number (now (bytes .entry)) (now (out .entry)) answer (now (out .exit)) ⌝ }
+{
+    if number == 20 {
+        return 20;
+    }
+    if out.len() != size.width {
+        return 2;
+    }
+    if number != 0 {
+        return number;
+    }
+    placing::fill(out, bytes);
+    0
+}

@@ -1,0 +1,2 @@
+pub mod Snapshots
+pub mod Laws

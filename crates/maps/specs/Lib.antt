@@ -1,0 +1,4 @@
+pub mod Map
+pub mod Updates
+pub mod Keeping
+pub mod Writing

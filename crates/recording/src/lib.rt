@@ -1,0 +1,53 @@
+// The records, laid into their bytes.
+ghost use mathlib.Core.Path.{_≡_};
+ghost use mathlib.Core.List.{[], _∷_};
+ghost use Prim.Native.Nat.{_+_, _*_, _≤_};
+ghost use lib.ListN.{length};
+ghost use Rattle.measures.specs.Measures.{Within};
+ghost use Rattle.records.specs.Records.{recordsOf};
+ghost use Rattle.laying.specs.Laid.{Lays};
+ghost use Rattle.layout.specs.Layout.{treeBytes, tableBytes, stored, entries, recordsSize};
+use measures::Size;
+use trees::Tree;
+
+// The measures.
+fn head(size: Size) -> [u16; 3]
+    requires { ⌜ Within size ⌝ }
+    ensures { λ h. ⌜ h ≡ (size .rows ∷ size .width ∷ size .places ∷ []) ⌝ }
+{
+    let mut h = [0u16; 3];
+    h[0] = size.rows as u16;
+    h[1] = size.width as u16;
+    h[2] = size.places as u16;
+    h
+}
+
+// The tree.
+fn lay_tree(records: &mut [u8], at: usize, tree: Tree) -> usize
+    requires { ⌜ at + 512 ≤ length (now records) ⌝ }
+    ensures { λ to. ⌜ Lays (now (records .entry)) at (treeBytes tree) (now (records .exit)) to × (to ≡ at + 512) ⌝ }
+{
+    let a = laying::lay(records, at, &tree.state);
+    let b = laying::lay(records, a, &tree.parent);
+    laying::lay_numbers(records, b, &tree.tag)
+}
+
+// The table.
+fn lay_table<'a>(records: &mut [u8], at: usize, node: &'a [u8], row: &'a [u16]) -> usize
+    requires { ⌜ (at + length (now node)) + 2 * length (now row) ≤ length (now records) ⌝ }
+    ensures { λ to. ⌜ Lays (now (records .entry)) at (tableBytes (now (node .entry)) (now (row .entry))) (now (records .exit)) to ⌝ }
+{
+    let a = laying::lay(records, at, node);
+    laying::lay_numbers(records, a, row)
+}
+
+// All of the records.
+pub fn store<'a>(records: &mut [u8], size: Size, tree: Tree, node: &'a [u8], row: &'a [u16])
+    requires { ⌜ Within size × (length (now records) ≡ recordsSize size) × (length (now node) ≡ entries size) × (length (now row) ≡ entries size) ⌝ }
+    ensures { λ r. ⌜ now (records .exit) ≡ stored (recordsOf size tree (now (node .entry)) (now (row .entry))) ⌝ }
+{
+    let first = head(size);
+    let a = laying::lay_numbers(records, 0, &first);
+    let b = lay_tree(records, a, tree);
+    lay_table(records, b, node, row);
+}

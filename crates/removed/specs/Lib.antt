@@ -1,0 +1,3 @@
+pub mod RemovedRecords
+pub mod RemovedVersion
+pub mod Removed

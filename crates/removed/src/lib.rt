@@ -1,0 +1,1 @@
+// A delete leaves sound records, in specs/. There is no code here.

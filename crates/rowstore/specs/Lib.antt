@@ -1,4 +1,0 @@
-pub mod Host
-pub mod Laws
-pub mod Reads
-pub mod Opens

@@ -1,0 +1,1 @@
+// A snapshot leaves sound records, in specs/. There is no code here.

@@ -1,0 +1,4 @@
+pub mod Trees
+pub mod Reading
+pub mod Rules
+pub mod Drawn

@@ -1,0 +1,2 @@
+pub mod Unsharing
+pub mod Ways

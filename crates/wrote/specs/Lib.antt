@@ -1,0 +1,4 @@
+pub mod WroteBytes
+pub mod WroteAllowed
+pub mod WroteRecords
+pub mod Wrote
