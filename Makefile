@@ -4,6 +4,18 @@ SHELL := bash
 .SHELLFLAGS := -euo pipefail -c
 .PHONY: shelf program library example test host bench tour clean
 
+# A check holds up to 1.5 GB. Chains of crates leave processors idle, so rt gets four jobs more than there are, as far as memory goes.
+export RT_JOBS ?= $(shell awk -v n="$$(nproc)" '/^MemAvailable:/ { m = int($$2 / 2097152); j = m < n + 4 ? m : n + 4; print j < 1 ? 1 : j }' /proc/meminfo)
+
+# A check also writes up to 200 MB of small files for as long as it runs: into memory, where there is room and programs may run there.
+ifndef TMPDIR
+scratch := $(shell awk '$$2 == "/dev/shm" && $$4 !~ /noexec/ { print $$2 }' /proc/mounts | tail -n 1)
+room := $(if $(scratch),$(shell test -w $(scratch) && df --output=avail --block-size=1M $(scratch) | awk 'NR == 2 && $$1 > 4096'))
+ifneq ($(room),)
+export TMPDIR := $(scratch)
+endif
+endif
+
 shelf: program
 	@target/bin/shelf <crates/shelf/stdin
 
@@ -18,11 +30,10 @@ example: library
 	@gcc -std=c11 -Wall -Wextra -Werror -O2 -Iinclude example/host.c target/staticlib/librowstore.a -o target/example/host
 	@target/example/host
 
-# The prover's verdict comes first, since it starts from nothing, and is said again at the end. It runs one job more than there are
-# processors, four at most: chains of crates leave a processor idle otherwise.
+# The prover's verdict comes first, since it starts from nothing, and is said again at the end.
 test:
 	@verdict=$$(mktemp); trap 'rm -f "$$verdict"' EXIT; \
-	n=$$(nproc); RT_JOBS=$${RT_JOBS:-$$((n < 4 ? n + 1 : 4))} rt ci | tee "$$verdict"; \
+	rt ci | tee "$$verdict"; \
 	$(MAKE) --no-print-directory host; tail -n 1 "$$verdict"
 
 # The tests that call the static library or the program, from Rust and from C.

@@ -1,9 +1,9 @@
 -- Copies of numbers, by evaluation: two rows of the origin, a snapshot 7 of it, then 5 in row 1 of 7. Assumes nothing.
 use mathlib.Core.Path.{_≡_, refl}
-use mathlib.Core.Bool.{Bool, true, false}
-use mathlib.Core.List.{List, [], _∷_, map}
+use mathlib.Core.Bool.{true, false}
+use mathlib.Core.List.{[], _∷_, map}
 use Prim.Native.Nat.{ℕ}
-use Rattle.copies.specs.Copies.{Cell, Copies, any, different, living, alive, without, cells, shared, placesUsed, adopt, put, fresh, copied, renewed}
+use Rattle.copies.specs.Copies.{Copies, any, different, living, without, cells, shared, placesUsed, adopt, put, fresh, copied, renewed}
 
 taken : Copies ℕ
 taken = copied 0 7 (renewed (0, 1) 9 (fresh 2 0))

@@ -1,5 +1,4 @@
 // Freeing what only one version reads, entry by entry, with a mark for each node and row that an entry names.
-ghost use mathlib.Core.Path.{_≡_};
 ghost use Prim.Native.Nat.{_<_};
 ghost use Rattle.basics.specs.Decide.{Decides};
 ghost use Rattle.trees.specs.Trees.{treeOf, tableOf, InUse};

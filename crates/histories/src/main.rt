@@ -36,24 +36,21 @@ fn lend(plan: Plan, tally: &mut [usize]) {
     );
 }
 
-// The histories of a configuration, and its line.
-fn configuration(plan: Plan, tally: &mut [usize]) {
-    history_tallying::clear(tally);
-    lend(plan, tally);
-    history_telling::show_line(plan, tally);
-}
-
+// The histories of every configuration, with a line for each.
 fn configurations(tally: &mut [usize]) {
     let mut k: usize = 0;
     while k < 11 {
-        configuration(history_plans::planned(k), tally);
+        let plan = history_plans::planned(k);
         k += 1;
+        history_tallying::clear(tally);
+        lend(plan, tally);
+        history_summing::show_line(plan, tally);
     }
 }
 
 fn main() {
     let mut tally = [0usize; 269];
     configurations(&mut tally);
-    history_telling::show_refusals(&tally);
-    history_telling::show_end(&tally);
+    history_summing::show_refusals(&tally);
+    history_summing::show_end(&tally);
 }

@@ -60,7 +60,7 @@ fn delete(size: Size, tree: Tree, node: &mut [u8], row: &mut [u16], call: Call) 
 }
 
 fn count<'a>(size: Size, tree: Tree, node: &'a [u8], row: &'a [u16]) -> Done {
-    let c = queries::count(size, tree, node, row);
+    let c = counting::count(size, tree, node, row);
     ended(c.answer, tree)
 }
 

@@ -42,7 +42,7 @@ pub fn unless(same: bool, what: u8) -> u8 {
 
 // Places in use and snapshots alive.
 fn counts<'a>(size: Size, tree: Tree, node: &'a [u8], row: &'a [u16], copies: &[usize]) -> u8 {
-    let c = queries::count(size, tree, node, row);
+    let c = counting::count(size, tree, node, row);
     let answered = unless(c.answer == 0, COUNTS);
     let used = unless(c.used == history_slots::used(copies, size.rows), USED);
     let alive = unless(c.snapshots == history_slots::snapshots(copies), SNAPSHOTS);

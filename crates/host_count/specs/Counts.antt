@@ -2,7 +2,7 @@
 use mathlib.Core.List.{List}
 use Prim.Native.Nat.{ℕ}
 use Rattle.answers.specs.Answers.{unsound, refused}
-use Rattle.queries.specs.Queries.{Gives, countAnswer}
+use Rattle.counting.specs.Counting.{Gives, countAnswer}
 use Rattle.layout.specs.Layout.{loaded}
 use Rattle.host.specs.Host.{Host}
 

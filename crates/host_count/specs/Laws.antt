@@ -5,7 +5,7 @@ use Prim.Native.Nat.{ℕ}
 use Rattle.measures.specs.declared.Size.{Size}
 use Rattle.trees.specs.declared.Tree.{Tree}
 use Rattle.records.specs.Records.{recordsOf}
-use Rattle.queries.specs.Queries.{CountEnds}
+use Rattle.counting.specs.Counting.{CountEnds}
 use Rattle.layout.specs.Layout.{sizeAt, loaded, Fits}
 use Rattle.host.specs.Laws.{host-judged, as-loaded}
 use Rattle.host_count.specs.Counts.{HostCounts}

@@ -30,7 +30,7 @@ fn count_in(
 {
     let size = layout::size(records);
     let tree = loading::load(records, node, row);
-    let c = queries::count(size, tree, node, row);
+    let c = counting::count(size, tree, node, row);
     *used = c.used;
     *snapshots = c.snapshots;
     c.answer

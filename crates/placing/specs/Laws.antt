@@ -6,7 +6,7 @@ use Prim.Native.Nat.{ℕ, _+_, _-_, _*_, _≤_, _<_}
 use native.Mathlib.Decide.{ℕ-discrete, decLt}
 use native.Mathlib.Nat.{suc-mul, mul-le-mul-right}
 use native.Mathlib.Omega.{arith}
-use lib.ListN.{length, take, drop, set, replicate, length-replicate, length-append, length-drop, length-set, take-append-drop}
+use lib.ListN.{length, take, drop, set, length-append, length-drop, length-set, take-append-drop}
 use lib.Seq.{length-take-le, take-append-le, drop-append-le, take-at, drop-at, drop-drop, ext-getD, getD-set-same, getD-set-other}
 use Rattle.basics.specs.Decide.{at}
 use Rattle.measures.specs.Measures.{beginsAt, bytesAt}
@@ -116,26 +116,6 @@ put-stretch width places p from bs ys f e =
     let w : (from + width) - from ≡ width = omega arith in
     rw (w, drop-drop, f, e)
 
--- A row on its way through a local buffer, at whose front it lies
-
--- the front that is lent has as many bytes as a row
-pub room-size : (n width : ℕ) → width ≤ n → length {A = ℕ} (take width (replicate n 0)) ≡ width
-room-size n width l = length-take-le width (replicate n 0) (omega (arith, length-replicate {A = ℕ} n 0))
-
-module _ (width : ℕ) (places : List ℕ) (p : ℕ) (i : Inside places width p) (row : List ℕ) (e : row ≡ bytesAt width places p) where
-  pub row-size : length row ≡ width
-  row-size = ap length e ∙ bytes-size width places p (i .within)
-
-  -- with whatever comes after the row, the buffer is long enough and its front is the row
-  pub front-long : (rest : List ℕ) → width ≤ length (row ++ rest)
-  front-long rest = omega (arith, length-append row rest, row-size)
-
-  pub front-row : (rest : List ℕ) → take width (row ++ rest) ≡ bytesAt width places p
-  front-row rest = take-at row rest width row-size ∙ e
-
-  pub front-size : (rest : List ℕ) → length (take width (row ++ rest)) ≡ width
-  front-size rest = length-take-le width (row ++ rest) (front-long rest)
-
 -- a place below P lies inside P × B bytes
 pub inside-of : (places : List ℕ) (width total p : ℕ) → width ≤ 1024 → total ≤ 4096 → length places ≡ total * width → p < total → Inside places width p
 inside-of places width total p w t e l = record {
@@ -143,9 +123,3 @@ inside-of places width total p w t e l = record {
   low = omega arith;
   within = omega (arith, mul-le-mul-right width l, suc-mul p width);
 }
-
--- a row saved, and then another written in its place
-pub renewed : (width : ℕ) (places saved written : List ℕ) (own spare : ℕ) (bs : List ℕ)
-    → saved ≡ putAt width places spare (bytesAt width places own) → written ≡ putAt width saved own bs
-    → written ≡ putAt width (putAt width places spare (bytesAt width places own)) own bs
-renewed width places saved written own spare bs e f = f ∙ rw e

@@ -23,6 +23,7 @@ use Rattle.answers.specs.Answers.{Refusal, bad-length, bad-row, unknown-tag, nu
 use Rattle.answers.specs.Tests.{Tests, refusal}
 use Rattle.answers.specs.Laws.{refusal-here, refusal-next, refusal-none}
 use Rattle.soundness.specs.Judged.{judged-sound, judged-unsound}
+use Rattle.soundness.specs.Parts.{few-places}
 use Rattle.placing.specs.Placing.{Inside, Spot, Lies}
 use Rattle.queries.specs.Queries.{readTests, rowOfTag, readAnswer, partFrom, ReadEnds, ReadPart}
 
@@ -84,9 +85,6 @@ module _ (z : Records) (places : List ℕ) (tag r : ℕ) where
 -- the node of a living version is in use, and the lookup may start from it
 pub version-used : (t : Tree) (tag n : ℕ) → version t tag ≡ some n → InUse t n
 version-used t tag n v = let (a, g) = version-alive t tag n v in (a .0, omega (arith, a .1))
-
-pub few-places : (z : Records) → Sound z → z .size .rows + length (z .node) ≤ 4096
-few-places z s = let m = s .measured in omega (arith, m .nodes, m .within .places .0, m .within .places .1)
 
 pub looking : (z : Records) → Sound z → (tag n : ℕ) → version (z .tree) tag ≡ some n → Looking (z .tree) (table z) n
 looking z s tag n v = record {

@@ -1,4 +1,4 @@
--- What count and read answer, for sound records and for others. Definitions only. Assumes nothing.
+-- What a read answers, for sound records and for others. Definitions only. Assumes nothing.
 use mathlib.Core.Path.{_≡_}
 use mathlib.Core.Bool.{not}
 use mathlib.Core.List.{List, [], _∷_}
@@ -7,24 +7,15 @@ use lib.Dec.{eqb, leb}
 use lib.ListN.{length}
 use Rattle.measures.specs.Measures.{beginsAt, bytesAt}
 use Rattle.placing.specs.Placing.{Spot, Lies}
-use Rattle.records.specs.Records.{Records, table, lives, tagPlace}
-use Rattle.trees.specs.Trees.{snapshots, used}
+use Rattle.records.specs.Records.{Records, lives, tagPlace}
 use Rattle.soundness.specs.Judged.{Judged}
-use Rattle.answers.specs.Answers.{bad-length, bad-row, unknown-tag, unsound, Answer, row, counts, refused, numberOf, rowOf, usedOf, snapshotsOf}
+use Rattle.answers.specs.Answers.{bad-length, bad-row, unknown-tag, unsound, Answer, row, refused, numberOf, rowOf}
 use Rattle.answers.specs.Tests.{Tests, refusal, unless}
 
--- the caller is handed an answer: its number and its row; its number and its two counts
+-- the caller is handed an answer: its number and its row
 pub record Hands (a : Answer) (number : ℕ) (bytes : List ℕ) : Type 0 where
   pub numbered : number ≡ numberOf a
   pub handed : bytes ≡ rowOf a
-
-pub record Gives (a : Answer) (number inUse alive : ℕ) : Type 0 where
-  pub numbered : number ≡ numberOf a
-  pub counted : inUse ≡ usedOf a
-  pub living : alive ≡ snapshotsOf a
-
-abbrev pub countAnswer : Records → Answer
-countAnswer z = counts (used (table z)) (snapshots (z .tree))
 
 -- Reading: the tests of SPEC 7.1 after 20, and the bytes
 
@@ -46,10 +37,7 @@ readAnswer z places tag r = unless (refusal (readTests z (length places) tag r))
 unfoldable pub partFrom : Records → ℕ → ℕ → ℕ → ℕ
 partFrom z bytes tag r = unless (refusal (readTests z bytes tag r)) (λ x. 0) (beginsAt (z .size .width) (tagPlace z tag r))
 
--- The promises of count and read: on sound records the answer above, on others 20
-abbrev pub CountEnds : Records → ℕ → ℕ → ℕ → Type 0
-CountEnds z number inUse alive = Judged z (Gives (countAnswer z) number inUse alive) (Gives (refused unsound) number inUse alive)
-
+-- The promise of read: on sound records the answer above, on others 20
 abbrev pub ReadEnds : Records → List ℕ → ℕ → ℕ → ℕ → List ℕ → Type 0
 ReadEnds z places tag r number bytes = Judged z (Hands (readAnswer z places tag r) number bytes) (Hands (refused unsound) number bytes)
 

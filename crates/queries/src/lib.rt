@@ -1,41 +1,13 @@
-// The two calls that change nothing: the two counts, and a row of a version.
+// The call that reads a row of a version. It changes nothing.
 ghost use mathlib.Core.Path.{_≡_};
 ghost use mathlib.Core.List.{[]};
 ghost use Rattle.records.specs.Records.{recordsOf};
 ghost use Rattle.placing.specs.Placing.{Lies};
-ghost use Rattle.queries.specs.Queries.{CountEnds, ReadEnds, ReadPart};
+ghost use Rattle.queries.specs.Queries.{ReadEnds, ReadPart};
 use measures::Row;
 use measures::Size;
 use tree::Found;
 use trees::Tree;
-
-// An answer, with places in use and snapshots alive.
-pub struct Counts {
-    pub answer: u8,
-    pub used: usize,
-    pub snapshots: usize,
-}
-
-// Refusal: 20.
-pub fn count<'a>(size: Size, tree: Tree, node: &'a [u8], row: &'a [u16]) -> Counts
-    ensures { λ r. ⌜ CountEnds (recordsOf size tree (now (node .entry)) (now (row .entry))) (r .answer) (r .used) (r .snapshots) ⌝ }
-{
-    if !soundness::sound(size, tree, node, row) {
-        return Counts {
-            answer: 20,
-            used: 0,
-            snapshots: 0,
-        };
-    }
-    let rows = size.rows;
-    let used = reading::used(rows, node, row);
-    let snapshots = tree::snapshots(&tree.state, &tree.tag, &tree.parent);
-    Counts {
-        answer: 0,
-        used,
-        snapshots,
-    }
-}
 
 // The empty part at the front of the places.
 fn nothing<'a>(places: &'a [u8]) -> &'a [u8]

@@ -32,7 +32,7 @@ pub fn save_row(
     };
     let rows = size.rows;
     let width = size.width;
-    placing::renew(
+    renewing::renew(
         places,
         width,
         measures::home(r),

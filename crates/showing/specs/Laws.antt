@@ -14,7 +14,8 @@ use Rattle.records.specs.Sound.{Sound}
 use Rattle.model.specs.Call.{read, count}
 use Rattle.answers.specs.Answers.{Refusal, row, refused, rowOf}
 use Rattle.answers.specs.Tests.{refusal, unless}
-use Rattle.queries.specs.Queries.{CountEnds, ReadEnds, readTests, readAnswer, rowOfTag}
+use Rattle.counting.specs.Counting.{CountEnds}
+use Rattle.queries.specs.Queries.{ReadEnds, readTests, readAnswer, rowOfTag}
 use Rattle.theorem.specs.Trace.{handed, read-ends, count-ends}
 use Rattle.digits.specs.Digits.{hex}
 use Rattle.text.specs.Text.{line, dash, pairText}

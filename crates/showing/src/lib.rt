@@ -10,7 +10,7 @@ pub fn count<'a>(run: Progress, node: &'a [u8], row: &'a [u16], out: &mut [u8]) 
     ensures { λ r. ⌜ Answers run (now (node .entry)) (now (row .entry)) count (now (out .entry)) r (now (node .entry)) (now (row .entry)) (now (out .exit)) ⌝ }
 {
     let tree = run.tree;
-    let c = queries::count(run.size, tree, node, row);
+    let c = counting::count(run.size, tree, node, row);
     let answer = widen::byte(c.answer);
     if answer != 0 {
         let end = text::plain_line(out, run.end, run.line, answer);

@@ -16,9 +16,8 @@ use Rattle.answers.specs.Answers.{zero-tag, unknown-tag, tag-alive, snapshots-f
 use Rattle.answers.specs.Tests.{Tests, refusal}
 use Rattle.answers.specs.Laws.{refusal-here, refusal-next, refusal-none}
 use Rattle.bound.specs.Bound.{node-room}
-use Rattle.edits.specs.Edits.{grown, hung}
-use Rattle.nodes.specs.Nodes.{emptyNode, firstChild}
-use Rattle.snapshots.specs.Taking.{snapshotTests, snapshotVerdict, treeAt, snapshotTree}
+use Rattle.growing.specs.Growing.{treeAt}
+use Rattle.snapshots.specs.Taking.{snapshotTests, snapshotVerdict, snapshotTree}
 
 module _ (z : Records) (source new : ℕ) where
   fullTest : Tests
@@ -72,17 +71,3 @@ room z s h = omega (arith, node-room (z .tree) (s .states) (s .linked) (s .branc
 pub tree-of-source : (t : Tree) (source new v : ℕ) → version t source ≡ some v → snapshotTree t source new ≡ treeAt t v new
 unfolding snapshotTree
 tree-of-source t source new v e = rw e
-
--- the new tree, by the nodes that were found
-module _ (t : Tree) (v tag m : ℕ) (e : emptyNode t ≡ some m) where
-  pub tree-under : v ≢ 0 → treeAt t v tag ≡ grown t m tag v
-  unfolding treeAt
-  tree-under h = rw (e, ne-eqb v 0 h)
-
-  pub tree-first : v ≡ 0 → firstChild t 0 ≡ none → treeAt t v tag ≡ grown t m tag v
-  unfolding treeAt
-  tree-first h c = rw (e, eq-eqb v 0 h, c)
-
-  pub tree-between : v ≡ 0 → (c : ℕ) → firstChild t 0 ≡ some c → treeAt t v tag ≡ hung (grown t m tag v) c m
-  unfolding treeAt
-  tree-between h c k = rw (e, eq-eqb v 0 h, k)

@@ -18,8 +18,10 @@ use Rattle.edits.specs.Edits.{withTree, Whole, Copied}
 use Rattle.edits.specs.Solve.{lives-node}
 use Rattle.edits.specs.Snapshots.{copy-snapshot, copy-first, copy-origin}
 use Rattle.nodes.specs.Nodes.{firstChild, empty-found, empty-of, child-some, child-none}
-use Rattle.snapshots.specs.Taking.{snapshotTests, snapshotVerdict, treeAt, snapshotTree}
-use Rattle.snapshots.specs.Laws.{room, tree-of-source, tree-under, tree-first, tree-between}
+use Rattle.growing.specs.Growing.{treeAt}
+use Rattle.growing.specs.Laws.{tree-under, tree-first, tree-between}
+use Rattle.snapshots.specs.Taking.{snapshotTests, snapshotVerdict, snapshotTree}
+use Rattle.snapshots.specs.Laws.{room, tree-of-source}
 
 -- what an accepted snapshot has passed
 pub record Allowed (z : Records) (source new : ℕ) : Type 0 where

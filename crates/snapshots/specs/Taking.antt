@@ -1,6 +1,6 @@
 -- What a snapshot answers and leaves: the tests of SPEC 7.1 after 20, and the new tree. Definitions only. Assumes nothing.
 use mathlib.Core.Path.{_≡_}
-use mathlib.Core.Bool.{not, cond}
+use mathlib.Core.Bool.{not}
 use mathlib.Core.List.{[], _∷_}
 use mathlib.Core.Option.{Option, none, some}
 use Prim.Native.Nat.{ℕ}
@@ -11,8 +11,7 @@ use Rattle.trees.specs.Trees.{snapshots, version}
 use Rattle.answers.specs.Answers.{Refusal, zero-tag, unknown-tag, tag-alive, snapshots-full, unsound, number}
 use Rattle.answers.specs.Tests.{Tests, refusal}
 use Rattle.soundness.specs.Judged.{Judged, Leaves}
-use Rattle.edits.specs.Edits.{grown, hung}
-use Rattle.nodes.specs.Nodes.{emptyNode, firstChild}
+use Rattle.growing.specs.Growing.{treeAt}
 
 unfoldable pub snapshotTests : Records → ℕ → ℕ → Tests
 snapshotTests z source new =
@@ -24,20 +23,6 @@ snapshotTests z source new =
 
 unfoldable pub snapshotVerdict : Records → ℕ → ℕ → Option Refusal
 snapshotVerdict z source new = refusal (snapshotTests z source new)
-
--- node c, if there is one, is hung under m
-abbrev pub hungBy : Tree → Option ℕ → ℕ → Tree
-hungBy t none m = t
-hungBy t (some c) m = hung t c m
-
--- a new node m under v; node 0's former child goes below it
-abbrev pub grownBy : Tree → ℕ → ℕ → Option ℕ → Tree
-grownBy t v tag none = t
-grownBy t v tag (some m) = cond (eqb v 0) (hungBy (grown t m tag v) (firstChild t 0) m) (grown t m tag v)
-
--- which empty node is taken is free: it is the first
-unfoldable pub treeAt : Tree → ℕ → ℕ → Tree
-treeAt t v tag = grownBy t v tag (emptyNode t)
 
 abbrev pub treeBy : Tree → Option ℕ → ℕ → Tree
 treeBy t none tag = t

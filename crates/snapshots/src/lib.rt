@@ -1,9 +1,6 @@
-// Taking a snapshot: a new living node, between node 0 and its former child for the origin, under its source for any other. No place is touched.
-ghost use mathlib.Core.Path.{_≡_};
-ghost use Prim.Native.Nat.{_<_};
+// Taking a snapshot: its tests, and the tree that it leaves. No place is touched.
 ghost use Rattle.records.specs.Records.{recordsOf};
-ghost use Rattle.trees.specs.Trees.{nodesUsed};
-ghost use Rattle.snapshots.specs.Taking.{treeAt, SnapshotEnds};
+ghost use Rattle.snapshots.specs.Taking.{SnapshotEnds};
 use measures::Size;
 use tree::Found;
 use trees::Tree;
@@ -12,23 +9,6 @@ use trees::Tree;
 pub struct Snapped {
     pub answer: u8,
     pub tree: Tree,
-}
-
-// The tree with a new node for a snapshot of the version at node v.
-fn with_snapshot(tree: Tree, v: usize, tag: u16) -> Tree
-    requires { ⌜ (v < 128) × (nodesUsed tree < 128) ⌝ }
-    ensures { λ t. ⌜ t ≡ treeAt tree v tag ⌝ }
-{
-    let m = nodes::empty_node(&tree.state, &tree.tag, &tree.parent);
-    let next = nodes::grown(tree, m, tag, v);
-    if v != 0 {
-        return next;
-    }
-    let found = nodes::child(&tree.state, &tree.tag, &tree.parent, 0);
-    let Found::At(c) = found else {
-        return next;
-    };
-    nodes::hung(next, c, m)
 }
 
 // Refusals: 20, 4, 21, 22, 23.
@@ -61,6 +41,6 @@ pub fn snapshot<'a>(
     }
     Snapped {
         answer: 0,
-        tree: with_snapshot(tree, v, new),
+        tree: growing::with_snapshot(tree, v, new),
     }
 }

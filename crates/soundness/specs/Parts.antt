@@ -1,5 +1,8 @@
 -- The seven rules in the three parts that are checked: the measures, the tree, the table. Assumes nothing.
 use mathlib.Core.Path.{sym, _∙_}
+use Prim.Native.Nat.{_+_, _≤_}
+use native.Mathlib.Omega.{arith}
+use lib.ListN.{length}
 use Rattle.records.specs.Records.{Records, table}
 use Rattle.records.specs.Sound.{Measured, Sound}
 use Rattle.trees.specs.Rules.{Linked}
@@ -27,3 +30,7 @@ module _ (z : Records) where
   -- what the table's check asks
   pub fitting : Measured z → Linked (z .tree) → Fitting (z .tree) (table z)
   fitting m l = record { halves = m .rows ∙ sym (m .nodes); few = m .within .rows .1; linked = l }
+
+-- there are at most 4,096 places, those of the origin and those of the table
+pub few-places : (z : Records) → Sound z → z .size .rows + length (z .node) ≤ 4096
+few-places z s = let m = s .measured in omega (arith, m .nodes, m .within .places .0, m .within .places .1)

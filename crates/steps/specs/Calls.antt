@@ -11,7 +11,8 @@ use Rattle.model.specs.Model.{Model, answer, after}
 use Rattle.agreement.specs.Steps.{step-agree}
 use Rattle.soundness.specs.Judged.{Leaves}
 use Rattle.edits.specs.Edits.{withTree, Whole}
-use Rattle.queries.specs.Queries.{Hands, Gives, countAnswer, readAnswer}
+use Rattle.counting.specs.Counting.{Gives, countAnswer}
+use Rattle.queries.specs.Queries.{Hands, readAnswer}
 use Rattle.view.specs.View.{Store, Agrees}
 use Rattle.view.specs.Queried.{read-step, count-step}
 use Rattle.snapshots.specs.Taking.{snapshotVerdict, snapshotTree}

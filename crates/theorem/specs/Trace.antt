@@ -13,7 +13,8 @@ use Rattle.answers.specs.Answers.{Answer, numberOf, rowOf, usedOf, snapshotsOf}
 use Rattle.answers.specs.Tests.{unless}
 use Rattle.model.specs.Model.{Model}
 use Rattle.copies.specs.Copies.{alive, placesUsed}
-use Rattle.queries.specs.Queries.{CountEnds, ReadEnds, rowOfTag}
+use Rattle.counting.specs.Counting.{CountEnds}
+use Rattle.queries.specs.Queries.{ReadEnds, rowOfTag}
 use Rattle.edits.specs.Edits.{withTree, Whole}
 use Rattle.view.specs.View.{Store}
 use Rattle.snapshots.specs.Taking.{snapshotVerdict, snapshotTree, SnapshotEnds}
@@ -47,7 +48,7 @@ abbrev pub handed : ℕ → List ℕ → ℕ → ℕ → Handed
 handed number bytes inUse alive = record { number = number; bytes = bytes; inUse = inUse; alive = alive }
 
 -- one call on a state, what it hands out, and the state it leaves: exactly what the `ensures` of snapshots::snapshot, queries::read,
--- writing::write, deleting::delete and queries::count say, with nothing in between; of a read, all but which part of the places it hands out
+-- writing::write, deleting::delete and counting::count say, with nothing in between; of a read, all but which part of the places it hands out
 pub data Call-ends (z : Records) (places : List ℕ) : Call → Handed → State → Type 0 where
   snapshot-ends : {source new number : ℕ} {tree : Tree} → SnapshotEnds z source new number tree
       → Call-ends z places (snapshot source new) (handed number [] 0 0) (state (withTree z tree) places)

@@ -6,9 +6,9 @@ use Prim.Native.Nat.{ℕ}
 use lib.ListN.{length}
 use borrow.Author.Tests.{eq-eqb}
 use Rattle.basics.specs.Decide.{not-no}
-use Rattle.measures.specs.declared.Size.{Size}
 use Rattle.records.specs.Records.{Records}
-use Rattle.queries.specs.Queries.{readTests, rowOfTag, readAnswer, countAnswer}
+use Rattle.counting.specs.Counting.{countAnswer}
+use Rattle.queries.specs.Queries.{readTests, rowOfTag, readAnswer}
 use Rattle.model.specs.Call.{read, count}
 use Rattle.answers.specs.Answers.{Refusal, bad-length, counts}
 use Rattle.model.specs.Model.{tests, accepted}

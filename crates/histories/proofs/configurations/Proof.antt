@@ -18,11 +18,17 @@ loop-holds c = search needs
 planned-requires : tie.Need-planned-requires Inv-loop μ-loop
 planned-requires c κs = search needs
 
-configuration-requires : tie.Need-configuration-requires Inv-loop μ-loop
-configuration-requires c κs = search needs
-
 add-k : tie.Need-add-k Inv-loop μ-loop
 add-k c = search needs
+
+clear-requires : tie.Need-clear-requires Inv-loop μ-loop
+clear-requires c κs = search needs
+
+lend-requires : tie.Need-lend-requires Inv-loop μ-loop
+lend-requires c κs = search needs
+
+show-line-requires : tie.Need-show-line-requires Inv-loop μ-loop
+show-line-requires c κs = search needs
 
 loop-less : tie.Need-loop-less Inv-loop μ-loop
 loop-less c = search needs
@@ -44,8 +50,10 @@ configurations-spec =
     μ-loop
     loop-holds
     planned-requires
-    configuration-requires
     add-k
+    clear-requires
+    lend-requires
+    show-line-requires
     loop-less
     loop-again
     same-length

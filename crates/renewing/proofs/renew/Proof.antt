@@ -1,8 +1,8 @@
--- `placing::renew` meets its contract: the old row is saved before the new one is written. Assumes nothing.
+-- `renewing::renew` meets its contract: the old row is saved before the new one is written. Assumes nothing.
 use borrow.Author.Needs.{needs}
-use Rattle.placing.specs.Laws.{renewed}
-use Rattle.placing.proofs.renew.Statement.{statement}
-use Rattle.placing.proofs.renew.Tie as tie
+use Rattle.renewing.specs.Laws.{renewed}
+use Rattle.renewing.proofs.renew.Statement.{statement}
+use Rattle.renewing.proofs.renew.Tie as tie
 
 copy-requires : tie.Need-copy-requires
 copy-requires c κs = search needs

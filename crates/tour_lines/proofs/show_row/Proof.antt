@@ -1,9 +1,9 @@
--- `tour::show_row` is safe and ends. Assumes nothing.
+-- `tour_lines::show_row` is safe and ends. Assumes nothing.
 use borrow.Author.Needs.{needs}
 use Prim.Native.Nat.{_≤_, _-_}
 use lib.ListN.{length}
-use Rattle.tour.proofs.show_row.Statement.{statement}
-use Rattle.tour.proofs.show_row.Tie as tie
+use Rattle.tour_lines.proofs.show_row.Statement.{statement}
+use Rattle.tour_lines.proofs.show_row.Tie as tie
 
 abbrev Inv-loop : tie.InvT-loop
 Inv-loop bytes i₀ i = i ≤ length bytes

@@ -1,13 +1,13 @@
--- `queries::count` meets its contract. Assumes nothing.
+-- `counting::count` meets its contract. Assumes nothing.
 use borrow.Author.Needs.{needs}
 use mathlib.Core.Path.{refl}
-use Rattle.queries.specs.Laws.{few-places}
+use Rattle.soundness.specs.Parts.{few-places}
 use Rattle.records.specs.Sound.{Sound}
 use Rattle.soundness.specs.Judged.{judged-sound, judged-unsound}
 use Rattle.records.specs.Records.{recordsOf}
 use Rattle.basics.specs.Decide.{passed, failed}
-use Rattle.queries.proofs.count.Statement.{statement}
-use Rattle.queries.proofs.count.Tie as tie
+use Rattle.counting.proofs.count.Statement.{statement}
+use Rattle.counting.proofs.count.Tie as tie
 
 judged : (c : tie.Else1) → (let a = c .before .before .before .before .args in Sound (recordsOf (a .size) (a .t2) (a .node .now) (a .row .now)))
 judged c = passed (c .before .sound .result) (c .before .sound .ensures) (c .if1 .left)

@@ -1,12 +1,12 @@
--- `snapshots::with_snapshot` meets its contract. Assumes nothing.
+-- `growing::with_snapshot` meets its contract. Assumes nothing.
 use borrow.Author.Needs.{needs}
 use mathlib.Core.Path.{sym, _∙_}
-use Rattle.snapshots.specs.Laws.{tree-under, tree-first, tree-between}
+use Rattle.growing.specs.Laws.{tree-under, tree-first, tree-between}
 use Rattle.nodes.specs.Nodes.{firstChild, empty-of, child-some}
 use Rattle.edits.specs.Edits.{hung}
 use Rattle.tree.specs.Rules.{found-at, found-missing}
-use Rattle.snapshots.proofs.with_snapshot.Statement.{statement}
-use Rattle.snapshots.proofs.with_snapshot.Tie as tie
+use Rattle.growing.proofs.with_snapshot.Statement.{statement}
+use Rattle.growing.proofs.with_snapshot.Tie as tie
 
 empty-node-requires : tie.Need-empty-node-requires
 empty-node-requires c κs = search needs

@@ -1,10 +1,10 @@
--- `placing::copy` meets its contract: the row passes through a local buffer, at whose front it lies. Assumes nothing.
+-- `renewing::copy` meets its contract: the row passes through a local buffer, at whose front it lies. Assumes nothing.
 use borrow.Author.Needs.{needs}
 use mathlib.Core.Path.{sym, _∙_, ap}
-use Rattle.placing.specs.Laws.{room-size, row-size, front-long, front-row, front-size}
+use Rattle.renewing.specs.Laws.{room-size, row-size, front-long, front-row, front-size}
 use Rattle.placing.specs.Placing.{putAt}
-use Rattle.placing.proofs.copy.Statement.{statement}
-use Rattle.placing.proofs.copy.Tie as tie
+use Rattle.renewing.proofs.copy.Statement.{statement}
+use Rattle.renewing.proofs.copy.Tie as tie
 
 array-borrow-prefix-old : tie.Need-array-borrow-prefix-old
 array-borrow-prefix-old c = search needs

@@ -1,8 +1,8 @@
--- `history_telling::show_refusals` is safe and ends. Assumes nothing.
+-- `history_summing::show_refusals` is safe and ends. Assumes nothing.
 use borrow.Author.Needs.{needs}
 use Prim.Native.Nat.{_≤_, _-_}
-use Rattle.history_telling.proofs.show_refusals.Statement.{statement}
-use Rattle.history_telling.proofs.show_refusals.Tie as tie
+use Rattle.history_summing.proofs.show_refusals.Statement.{statement}
+use Rattle.history_summing.proofs.show_refusals.Tie as tie
 
 abbrev Inv-loop : tie.InvT-loop
 Inv-loop tally answer₀ t4 answer = answer ≤ 256
