@@ -1,6 +1,6 @@
 -- One call, then any list of calls: the answers are the model's, and agreement is kept; and where it begins. Assumes nothing.
 use mathlib.Core.Path.{_≡_, refl, _∙_, ap₂}
-use mathlib.Core.List.{List}
+use mathlib.Core.List.{List, _∷_}
 use mathlib.Core.Option.{Option, none, some}
 use Prim.Native.Nat.{ℕ, _<_}
 use lib.ListN.{replicate}

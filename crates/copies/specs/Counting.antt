@@ -1,7 +1,7 @@
 -- Places in use, living snapshots and shared rows: what they depend on, and how to count and to find them. Assumes nothing.
 use mathlib.Core.Path.{_≡_, refl, sym, _∙_, ap}
 use mathlib.Core.Logic.{_≢_, _↔_, Iff·symm, Iff·trans}
-use mathlib.Core.Bool.{Bool, true, false, not, false≢true}
+use mathlib.Core.Bool.{Bool, true, false, not, _&&_, false≢true}
 use mathlib.Core.List.{List}
 use Prim.Native.Nat.{ℕ, pred, _<_}
 use lib.Dec.{eqb}

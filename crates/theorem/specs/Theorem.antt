@@ -1,7 +1,7 @@
 -- THE THEOREM (the client's third demand, SPEC 10): any list of calls on a store answers as the reference model, and leaves what the model has.
 -- It is one statement over the whole list, for a store fresh from its opening and for sound records from elsewhere alike. Assumes nothing.
 use mathlib.Core.Path.{_≡_, refl, sym, _∙_, ap, ap₂}
-use mathlib.Core.List.{List, [], map}
+use mathlib.Core.List.{List, [], _∷_, map}
 use mathlib.Core.Option.{Option, none, some}
 use Prim.Native.Nat.{ℕ}
 use Rattle.measures.specs.declared.Size.{Size}
