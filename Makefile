@@ -4,10 +4,10 @@ SHELL := bash
 .SHELLFLAGS := -euo pipefail -c
 .PHONY: shelf program library example test host bench tour clean
 
-# A check holds up to 1.5 GB. Chains of crates leave processors idle, so rt gets four jobs more than there are, as far as memory goes.
-export RT_JOBS ?= $(shell awk -v n="$$(nproc)" '/^MemAvailable:/ { m = int($$2 / 2097152); j = m < n + 4 ? m : n + 4; print j < 1 ? 1 : j }' /proc/meminfo)
+# One job more than there are processors, four at most: chains of crates leave a processor idle otherwise.
+export RT_JOBS ?= $(shell n=$$(nproc); echo $$((n < 4 ? n + 1 : 4)))
 
-# A check also writes up to 200 MB of small files for as long as it runs: into memory, where there is room and programs may run there.
+# A check writes up to 200 MB of small files for as long as it runs: into memory, where there is room and programs may run there.
 ifndef TMPDIR
 scratch := $(shell awk '$$2 == "/dev/shm" && $$4 !~ /noexec/ { print $$2 }' /proc/mounts | tail -n 1)
 room := $(if $(scratch),$(shell test -w $(scratch) && df --output=avail --block-size=1M $(scratch) | awk 'NR == 2 && $$1 > 4096'))
