@@ -4,8 +4,9 @@ SHELL := bash
 .SHELLFLAGS := -euo pipefail -c
 .PHONY: shelf program library example test host bench tour clean
 
-# One job more than there are processors, four at most: chains of crates leave a processor idle otherwise.
-export RT_JOBS ?= $(shell n=$$(nproc); echo $$((n < 4 ? n + 1 : 4)))
+# A check holds up to 1.5 GB. rt waits for the slowest of its jobs before it starts the next ones, so it gets four more than there are processors, as
+# far as memory goes.
+export RT_JOBS ?= $(shell awk -v n="$$(nproc)" '/^MemAvailable:/ { m = int($$2 / 2097152); j = m < n + 4 ? m : n + 4; print j < 1 ? 1 : j }' /proc/meminfo)
 
 # A check writes up to 200 MB of small files for as long as it runs: into memory, where there is room and programs may run there.
 ifndef TMPDIR
