@@ -1,6 +1,7 @@
 -- `growing::with_snapshot` meets its contract. Assumes nothing.
 use borrow.Author.Needs.{needs}
 use mathlib.Core.Path.{sym, _∙_}
+use native.Mathlib.Omega.{arith}
 use Rattle.growing.specs.Laws.{tree-under, tree-first, tree-between}
 use Rattle.nodes.specs.Nodes.{firstChild, empty-of, child-some}
 use Rattle.edits.specs.Edits.{hung}
@@ -12,7 +13,7 @@ empty-node-requires : tie.Need-empty-node-requires
 empty-node-requires c κs = search needs
 
 grown-requires : tie.Need-grown-requires
-grown-requires c κs = (empty-of _ _ (c .empty-node .ensures) .0, c .before .before .before .before .before .pre .0)
+grown-requires c κs = (empty-of _ _ (c .empty-node .ensures) .0, omega (arith, c .before .before .before .before .before .pre .0))
 
 returns : tie.Need-returns
 returns c = c .before .grown .ensures ∙ sym (tree-under _ _ _ _ (c .before .before .empty-node .ensures) (c .if1 .taken))
@@ -38,7 +39,7 @@ hung-requires c κs =
     let k = c .before .before .before in
     let i = k .before .before .before .before .before in
     let s = i .before .before .before .before .before .before .before in
-    (child-some _ _ _ (found-at (firstChild (s .args .t1) 0) _ (sym (c .before .found .given .1) ∙ k .child .ensures)) .1 .0, empty-of _ _ (i .before .before .empty-node .ensures) .0)
+    (child-some _ _ _ (found-at (firstChild (s .args .t1) 0) _ (sym (c .before .found .given .1) ∙ k .child .ensures)) .1 .0, omega (arith, empty-of _ _ (i .before .before .empty-node .ensures) .0))
 
 returns-3 : tie.Need-returns-3
 returns-3 c =
