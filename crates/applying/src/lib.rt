@@ -2,7 +2,7 @@
 ghost use mathlib.Core.Path.{_≡_};
 ghost use mathlib.Core.Bool.{true};
 ghost use Rattle.commands.specs.Format.{changes};
-ghost use Rattle.applying.specs.Turns.{Ready, Turned};
+ghost use Rattle.lines.specs.Turns.{Ready, Turned};
 use commands::Command;
 use commands::Step;
 use progress::Progress;

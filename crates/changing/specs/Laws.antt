@@ -7,10 +7,10 @@ use lib.ListN.{take, drop}
 use Rattle.trees.specs.declared.Tree.{Tree}
 use Rattle.records.specs.Records.{Records, recordsOf}
 use Rattle.model.specs.Call.{snapshot, write, delete}
-use Rattle.snapshots.specs.Taking.{SnapshotEnds}
+use Rattle.takes.specs.Taking.{SnapshotEnds}
 use Rattle.owning.specs.Owning.{Held}
-use Rattle.writing.specs.Writing.{WriteEnds}
-use Rattle.deleting.specs.Deleting.{Left, DeleteEnds}
+use Rattle.writes.specs.Writing.{WriteEnds}
+use Rattle.deletes.specs.Deleting.{Left, DeleteEnds}
 use Rattle.theorem.specs.Trace.{handed, snapshot-ends, write-ends, delete-ends}
 use Rattle.text.specs.Text.{line, dash}
 use Rattle.laying.specs.Laid.{Lays}

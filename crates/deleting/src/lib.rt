@@ -3,7 +3,7 @@ ghost use mathlib.Core.Path.{_≡_};
 ghost use lib.ListN.{length};
 ghost use Rattle.records.specs.Records.{recordsOf, table};
 ghost use Rattle.table.specs.Rules.{Marked, Blank};
-ghost use Rattle.deleting.specs.Deleting.{left, deletedAt, Deletable, DeleteEnds};
+ghost use Rattle.deletes.specs.Deleting.{left, deletedAt, Deletable, DeleteEnds};
 use measures::Size;
 use tree::Found;
 use trees::Tree;

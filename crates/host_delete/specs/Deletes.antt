@@ -2,7 +2,7 @@
 use mathlib.Core.List.{List}
 use Prim.Native.Nat.{ℕ}
 use Rattle.records.specs.Records.{Records, recordsOf}
-use Rattle.deleting.specs.Deleting.{Left, deleteVerdict, deleted}
+use Rattle.deletes.specs.Deleting.{Left, deleteVerdict, deleted}
 use Rattle.layout.specs.Layout.{stored, loaded}
 use Rattle.host.specs.Host.{HostEnds}
 

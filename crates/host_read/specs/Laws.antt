@@ -22,9 +22,9 @@ use Rattle.answers.specs.Tests.{refusal, unless}
 use Rattle.answers.specs.Laws.{refusal-passed, number-some}
 use Rattle.soundness.specs.Judged.{Leaves}
 use Rattle.placing.specs.Laws.{bytes-size}
-use Rattle.queries.specs.Queries.{Hands, ReadEnds, readAnswer, rowOfTag}
-use Rattle.queries.specs.Queries as queries
-use Rattle.queries.specs.Laws.{version-used, read-inside}
+use Rattle.reads.specs.Reads.{Hands, ReadEnds, readAnswer, rowOfTag}
+use Rattle.reads.specs.Reads as queries
+use Rattle.reads.specs.Laws.{version-used, read-inside}
 use Rattle.layout.specs.Layout.{sizeAt, loaded, Fits}
 use Rattle.host_read.specs.Reads.{HostReads, readTests, copyNumber, Copied}
 use Rattle.host.specs.Laws.{host-judged, as-loaded}

@@ -8,7 +8,7 @@ use lib.ListN.{length}
 use Rattle.records.specs.Records.{Records, lives}
 use Rattle.answers.specs.Answers.{bad-length, bad-row, unknown-tag}
 use Rattle.answers.specs.Tests.{Tests, refusal}
-use Rattle.queries.specs.Queries.{rowOfTag}
+use Rattle.reads.specs.Reads.{rowOfTag}
 use Rattle.layout.specs.Layout.{loaded}
 use Rattle.host.specs.Host.{HostEnds}
 

@@ -5,7 +5,7 @@ use Prim.Native.Nat.{ℕ}
 use Rattle.measures.specs.declared.Size.{Size}
 use Rattle.trees.specs.declared.Tree.{Tree}
 use Rattle.records.specs.Records.{recordsOf}
-use Rattle.snapshots.specs.Taking.{SnapshotEnds}
+use Rattle.takes.specs.Taking.{SnapshotEnds}
 use Rattle.layout.specs.Layout.{sizeAt, stored, loaded, Fits}
 use Rattle.host.specs.Host.{Kept}
 use Rattle.host.specs.Laws.{host-kept, as-loaded}

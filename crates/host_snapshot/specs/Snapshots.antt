@@ -3,7 +3,7 @@ use mathlib.Core.List.{List}
 use Prim.Native.Nat.{ℕ}
 use Rattle.trees.specs.declared.Tree.{Tree}
 use Rattle.records.specs.Records.{Records, recordsOf}
-use Rattle.snapshots.specs.Taking.{snapshotVerdict, snapshotTree}
+use Rattle.takes.specs.Taking.{snapshotVerdict, snapshotTree}
 use Rattle.layout.specs.Layout.{stored, loaded}
 use Rattle.host.specs.Host.{HostEnds}
 

@@ -6,7 +6,7 @@ use Rattle.measures.specs.declared.Size.{Size}
 use Rattle.trees.specs.declared.Tree.{Tree}
 use Rattle.records.specs.Records.{recordsOf}
 use Rattle.owning.specs.Owning.{Held}
-use Rattle.writing.specs.Writing.{WriteEnds}
+use Rattle.writes.specs.Writing.{WriteEnds}
 use Rattle.layout.specs.Layout.{sizeAt, stored, loaded, Fits}
 use Rattle.host.specs.Host.{Kept}
 use Rattle.host.specs.Laws.{host-kept, as-loaded}

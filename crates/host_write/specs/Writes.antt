@@ -3,7 +3,7 @@ use mathlib.Core.List.{List}
 use Prim.Native.Nat.{ℕ}
 use Rattle.records.specs.Records.{Records, recordsOf}
 use Rattle.owning.specs.Owning.{Held}
-use Rattle.writing.specs.Writing.{writeVerdict, written}
+use Rattle.writes.specs.Writing.{writeVerdict, written}
 use Rattle.layout.specs.Layout.{stored, loaded}
 use Rattle.host.specs.Host.{HostEnds, Lent}
 

@@ -24,12 +24,12 @@ use Rattle.answers.specs.Tests.{refusal, unless, inMeasure}
 use Rattle.answers.specs.Laws.{refusal-here, refusal-next, refusal-passed, unless-made, measure-in, number-some}
 use Rattle.soundness.specs.Judged.{Leaves, judged-sound}
 use Rattle.edits.specs.Edits.{Whole, withTree}
-use Rattle.queries.specs.Queries.{Hands, readAnswer, rowOfTag}
-use Rattle.queries.specs.Queries as queries
-use Rattle.snapshots.specs.Taking.{snapshotVerdict, snapshotTree}
+use Rattle.reads.specs.Reads.{Hands, readAnswer, rowOfTag}
+use Rattle.reads.specs.Reads as queries
+use Rattle.takes.specs.Taking.{snapshotVerdict, snapshotTree}
 use Rattle.owning.specs.Owning.{Held, held}
-use Rattle.writing.specs.Writing.{writeVerdict, written}
-use Rattle.deleting.specs.Deleting.{Left, left, deleteVerdict, deleted}
+use Rattle.writes.specs.Writing.{writeVerdict, written}
+use Rattle.deletes.specs.Deleting.{Left, left, deleteVerdict, deleted}
 use Rattle.opening.specs.First.{first-sound}
 use Rattle.view.specs.View.{Store, started}
 use Rattle.view.specs.Starts.{open-agrees}

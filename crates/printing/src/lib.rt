@@ -2,7 +2,7 @@
 ghost use Prim.Native.Nat.{_≤_};
 ghost use lib.ListN.{length};
 ghost use Rattle.laying.specs.Laid.{Lays};
-ghost use Rattle.printing.specs.Printed.{printed, served};
+ghost use Rattle.lines.specs.Printed.{printed, served};
 use measures::Size;
 
 // What is printed for a stream. A stream of over 4,096 bytes is refused as a whole.

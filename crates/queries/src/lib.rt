@@ -3,7 +3,7 @@ ghost use mathlib.Core.Path.{_≡_};
 ghost use mathlib.Core.List.{[]};
 ghost use Rattle.records.specs.Records.{recordsOf};
 ghost use Rattle.placing.specs.Placing.{Lies};
-ghost use Rattle.queries.specs.Queries.{ReadEnds, ReadPart};
+ghost use Rattle.reads.specs.Reads.{ReadEnds, ReadPart};
 use measures::Row;
 use measures::Size;
 use tree::Found;

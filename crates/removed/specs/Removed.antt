@@ -15,7 +15,7 @@ use Rattle.answers.specs.Answers.{Refusal, origin-tag, unknown-tag}
 use Rattle.answers.specs.Tests.{unless}
 use Rattle.answers.specs.Laws.{refusal-passed}
 use Rattle.edits.specs.Solve.{lives-node}
-use Rattle.deleting.specs.Deleting.{Left, left, deleteTests, deleteVerdict, deleted}
+use Rattle.deletes.specs.Deleting.{Left, left, deleteTests, deleteVerdict, deleted}
 use Rattle.intact.specs.Intact.{Intact}
 use Rattle.intact.specs.Tags.{origin-tag as node-origin}
 use Rattle.removed.specs.RemovedVersion.{removed, removed-whole}

@@ -21,7 +21,7 @@ use Rattle.removal.specs.FreedLists.{freed-is}
 use Rattle.removal.specs.Freed.{freed-place, freed-sound, freed-spare}
 use Rattle.removal.specs.Ghosted.{ghosted-place, ghosted-whole, ghosted-nearly, ghosted-other, ghosted-gone, ghosted-none}
 use Rattle.pruning.specs.Pruning.{prunedTree, prunedNode}
-use Rattle.deleting.specs.Deleting.{deletedAt}
+use Rattle.deletes.specs.Deleting.{deletedAt}
 use Rattle.removed.specs.RemovedRecords.{Thinned, pruned, Settled, settled}
 
 -- the records without it

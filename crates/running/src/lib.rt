@@ -3,7 +3,7 @@ ghost use mathlib.Core.Path.{_≡_};
 ghost use Prim.Native.Nat.{_+_, _*_, _≤_};
 ghost use Rattle.records.specs.Records.{recordsOf};
 ghost use Rattle.progress.specs.Replying.{lineRoom};
-ghost use Rattle.running.specs.Streams.{StreamEnds};
+ghost use Rattle.lines.specs.Streams.{StreamEnds};
 use measures::Size;
 use progress::Progress;
 use trees::Tree;

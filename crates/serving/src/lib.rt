@@ -1,5 +1,5 @@
 // One turn of a run: what stands at a position of a stream, and its line.
-ghost use Rattle.applying.specs.Turns.{Ready, Turned};
+ghost use Rattle.lines.specs.Turns.{Ready, Turned};
 use commands::Command;
 use commands::Step;
 use progress::Progress;

@@ -15,7 +15,7 @@ use Rattle.model.specs.Call.{read, count}
 use Rattle.answers.specs.Answers.{Refusal, row, refused, rowOf}
 use Rattle.answers.specs.Tests.{refusal, unless}
 use Rattle.counting.specs.Counting.{CountEnds}
-use Rattle.queries.specs.Queries.{ReadEnds, readTests, readAnswer, rowOfTag}
+use Rattle.reads.specs.Reads.{ReadEnds, readTests, readAnswer, rowOfTag}
 use Rattle.theorem.specs.Trace.{handed, read-ends, count-ends}
 use Rattle.digits.specs.Digits.{hex}
 use Rattle.text.specs.Text.{line, dash, pairText}

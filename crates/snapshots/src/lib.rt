@@ -1,6 +1,6 @@
 // Taking a snapshot: its tests, and the tree that it leaves. No place is touched.
 ghost use Rattle.records.specs.Records.{recordsOf};
-ghost use Rattle.snapshots.specs.Taking.{SnapshotEnds};
+ghost use Rattle.takes.specs.Taking.{SnapshotEnds};
 use measures::Size;
 use tree::Found;
 use trees::Tree;

@@ -12,15 +12,15 @@ use Rattle.agreement.specs.Steps.{step-agree}
 use Rattle.soundness.specs.Judged.{Leaves}
 use Rattle.edits.specs.Edits.{withTree, Whole}
 use Rattle.counting.specs.Counting.{Gives, countAnswer}
-use Rattle.queries.specs.Queries.{Hands, readAnswer}
+use Rattle.reads.specs.Reads.{Hands, readAnswer}
 use Rattle.view.specs.View.{Store, Agrees}
 use Rattle.view.specs.Queried.{read-step, count-step}
-use Rattle.snapshots.specs.Taking.{snapshotVerdict, snapshotTree}
+use Rattle.takes.specs.Taking.{snapshotVerdict, snapshotTree}
 use Rattle.owning.specs.Owning.{Held, held}
-use Rattle.writing.specs.Writing.{writeVerdict, written}
+use Rattle.writes.specs.Writing.{writeVerdict, written}
 use Rattle.took.specs.Took.{snapshot-whole}
 use Rattle.steps.specs.Snapshotted.{snapshot-step, snapshot-store}
-use Rattle.deleting.specs.Deleting.{Left, left, deleteVerdict, deleted}
+use Rattle.deletes.specs.Deleting.{Left, left, deleteVerdict, deleted}
 use Rattle.removed.specs.Removed.{leftRecords}
 use Rattle.steps.specs.Removed.{delete-step, delete-store, delete-whole}
 use Rattle.wrote.specs.Wrote.{heldRecords}

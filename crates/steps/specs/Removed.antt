@@ -23,7 +23,7 @@ use Rattle.edits.specs.Edits.{Whole}
 use Rattle.removal.specs.Removal.{Deleted}
 use Rattle.view.specs.View.{view, Store}
 use Rattle.view.specs.Viewed.{view-alive}
-use Rattle.deleting.specs.Deleting.{Left, left, deleteTests, deleteVerdict, deletedAt, deleted}
+use Rattle.deletes.specs.Deleting.{Left, left, deleteTests, deleteVerdict, deletedAt, deleted}
 use Rattle.intact.specs.Intact.{Intact}
 use Rattle.removed.specs.RemovedVersion.{removed}
 use Rattle.removed.specs.Removed.{leftRecords, deleteLeft, delete-allowed, delete-intact}

@@ -22,8 +22,8 @@ use Rattle.copies.specs.Living.{alive-cons}
 use Rattle.edits.specs.Edits.{withTree, Whole, Copied}
 use Rattle.view.specs.View.{view, Store}
 use Rattle.view.specs.Viewed.{view-alive, view-snapshots}
-use Rattle.snapshots.specs.Taking.{snapshotTests, snapshotVerdict, snapshotTree}
-use Rattle.snapshots.specs.Taken.{snapshot-allowed, snapshot-copied}
+use Rattle.takes.specs.Taking.{snapshotTests, snapshotVerdict, snapshotTree}
+use Rattle.takes.specs.Taken.{snapshot-allowed, snapshot-copied}
 use Rattle.took.specs.Took.{snapshot-intact}
 
 -- the tree that the call leaves

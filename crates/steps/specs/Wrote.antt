@@ -23,8 +23,8 @@ use Rattle.view.specs.Viewed.{view-alive}
 use Rattle.owning.specs.Owning.{Held, held, partedTree, partedNode}
 use Rattle.moving.specs.Moving.{toFree}
 use Rattle.saving.specs.Saving.{saving as savingHeld, savingBy}
-use Rattle.storing.specs.Storing.{inPlace}
-use Rattle.writing.specs.Writing.{writeVerdict, written}
+use Rattle.writes.specs.Storing.{inPlace}
+use Rattle.writes.specs.Writing.{writeVerdict, written}
 use Rattle.intact.specs.Intact.{Intact}
 use Rattle.wrote.specs.WroteAllowed.{Allowed, write-allowed}
 use Rattle.intact.specs.Tags.{origin-tag, snapshot-tag}

@@ -18,8 +18,8 @@ use Rattle.agreement.specs.Agree.{mapVerdict}
 use Rattle.edits.specs.Solve.{lives-node}
 use Rattle.view.specs.View.{view, Store}
 use Rattle.view.specs.Viewed.{view-alive, view-used}
-use Rattle.unsharing.specs.Unsharing.{fullTest}
-use Rattle.writing.specs.Writing.{writeTests, writeVerdict}
+use Rattle.writes.specs.Unsharing.{fullTest}
+use Rattle.writes.specs.Writing.{writeTests, writeVerdict}
 use Rattle.steps.specs.SharedTags.{shared-view}
 
 -- later tests may be compared as if the earlier ones did not hold

@@ -1,5 +1,5 @@
 // The loop over a stream of commands, from reader to reader.
-ghost use Rattle.streaming.specs.Loop.{Begins, Through};
+ghost use Rattle.lines.specs.Loop.{Begins, Through};
 use progress::Progress;
 
 // Every command of the stream, and its line: from reader to reader.

@@ -9,10 +9,10 @@ use Rattle.answers.specs.Laws.{unless-made}
 use Rattle.model.specs.Call.{Call}
 use Rattle.model.specs.Model.{Model}
 use Rattle.edits.specs.Edits.{withTree}
-use Rattle.snapshots.specs.Taking.{snapshotVerdict, snapshotTree}
+use Rattle.takes.specs.Taking.{snapshotVerdict, snapshotTree}
 use Rattle.owning.specs.Owning.{held}
-use Rattle.writing.specs.Writing.{writeVerdict, written}
-use Rattle.deleting.specs.Deleting.{Left, left, deleteVerdict, deleted}
+use Rattle.writes.specs.Writing.{writeVerdict, written}
+use Rattle.deletes.specs.Deleting.{Left, left, deleteVerdict, deleted}
 use Rattle.steps.specs.Calls.{Runs}
 use Rattle.theorem.specs.Trace.{State, state, stateHeld, stateLeft, Handed, Call-ends, snapshot-ends, read-ends, write-ends, delete-ends, count-ends, Trace, over, then, leaves, leftBy}
 use Rattle.theorem.specs.Theorem.{one-call}

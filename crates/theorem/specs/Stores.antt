@@ -14,7 +14,7 @@ use Rattle.model.specs.Model.{Model, answer, after, answers, final}
 use Rattle.copies.specs.Copies.{alive, snapshotsAlive, shared}
 use Rattle.copies.specs.Counting.{shared-yes, shared-some}
 use Rattle.edits.specs.Edits.{Whole}
-use Rattle.queries.specs.Queries.{rowOfTag}
+use Rattle.reads.specs.Reads.{rowOfTag}
 use Rattle.view.specs.View.{view, Store, started}
 use Rattle.view.specs.Viewed.{view-snapshots}
 use Rattle.theorem.specs.Trace.{State, Handed, Call-ends, Trace, over, then, handedOf, Equals}

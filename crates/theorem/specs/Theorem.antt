@@ -15,7 +15,7 @@ use Rattle.answers.specs.Tests.{unless}
 use Rattle.agreement.specs.Steps.{used-agree}
 use Rattle.edits.specs.Edits.{Whole}
 use Rattle.opening.specs.Opening.{openVerdict, Opening}
-use Rattle.queries.specs.Queries.{rowOfTag}
+use Rattle.reads.specs.Reads.{rowOfTag}
 use Rattle.view.specs.View.{view, Store, started}
 use Rattle.view.specs.Viewed.{view-alive, view-used}
 use Rattle.steps.specs.Calls.{Runs, read-call, count-call, snapshot-call, write-call, delete-call}

@@ -14,13 +14,13 @@ use Rattle.answers.specs.Tests.{unless}
 use Rattle.model.specs.Model.{Model}
 use Rattle.copies.specs.Copies.{alive, placesUsed}
 use Rattle.counting.specs.Counting.{CountEnds}
-use Rattle.queries.specs.Queries.{ReadEnds, rowOfTag}
+use Rattle.reads.specs.Reads.{ReadEnds, rowOfTag}
 use Rattle.edits.specs.Edits.{withTree, Whole}
 use Rattle.view.specs.View.{Store}
-use Rattle.snapshots.specs.Taking.{snapshotVerdict, snapshotTree, SnapshotEnds}
+use Rattle.takes.specs.Taking.{snapshotVerdict, snapshotTree, SnapshotEnds}
 use Rattle.owning.specs.Owning.{Held}
-use Rattle.writing.specs.Writing.{writeVerdict, written, WriteEnds}
-use Rattle.deleting.specs.Deleting.{Left, deleteVerdict, deleted, DeleteEnds}
+use Rattle.writes.specs.Writing.{writeVerdict, written, WriteEnds}
+use Rattle.deletes.specs.Deleting.{Left, deleteVerdict, deleted, DeleteEnds}
 
 -- the records and the bytes of the places, as one call leaves them for the next
 pub record State : Type 0 where

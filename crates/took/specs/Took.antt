@@ -14,8 +14,8 @@ use Rattle.answers.specs.Tests.{unless}
 use Rattle.edits.specs.Edits.{withTree, Whole, grown}
 use Rattle.nodes.specs.Nodes.{emptyNode, firstChild}
 use Rattle.growing.specs.Growing.{hungBy, grownBy, treeAt}
-use Rattle.snapshots.specs.Taking.{snapshotVerdict, treeBy, snapshotTree}
-use Rattle.snapshots.specs.Taken.{snapshot-allowed, snapshot-copied}
+use Rattle.takes.specs.Taking.{snapshotVerdict, treeBy, snapshotTree}
+use Rattle.takes.specs.Taken.{snapshot-allowed, snapshot-copied}
 use Rattle.intact.specs.Intact.{Intact}
 
 -- the tree's arrays stay whole

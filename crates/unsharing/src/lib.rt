@@ -7,7 +7,7 @@ ghost use Rattle.answers.specs.Tests.{refusal};
 ghost use Rattle.soundness.specs.Judged.{Leaves};
 ghost use Rattle.sharing.specs.Sharing.{freeEntry, sharedAt};
 ghost use Rattle.owning.specs.Owning.{held, Writable};
-ghost use Rattle.unsharing.specs.Unsharing.{fullTest, sharedTo};
+ghost use Rattle.writes.specs.Unsharing.{fullTest, sharedTo};
 use measures::Row;
 use measures::Size;
 use tree::Found;

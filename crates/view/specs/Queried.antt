@@ -8,7 +8,7 @@ use borrow.Author.Tests.{eq-eqb}
 use Rattle.basics.specs.Decide.{not-no}
 use Rattle.records.specs.Records.{Records}
 use Rattle.counting.specs.Counting.{countAnswer}
-use Rattle.queries.specs.Queries.{readTests, rowOfTag, readAnswer}
+use Rattle.reads.specs.Reads.{readTests, rowOfTag, readAnswer}
 use Rattle.model.specs.Call.{read, count}
 use Rattle.answers.specs.Answers.{Refusal, bad-length, counts}
 use Rattle.model.specs.Model.{tests, accepted}

@@ -6,7 +6,7 @@ ghost use Rattle.records.specs.Records.{recordsOf};
 ghost use Rattle.records.specs.Sound.{Sound};
 ghost use Rattle.soundness.specs.Judged.{Leaves};
 ghost use Rattle.owning.specs.Owning.{held};
-ghost use Rattle.writing.specs.Writing.{writeVerdict, written, WriteEnds};
+ghost use Rattle.writes.specs.Writing.{writeVerdict, written, WriteEnds};
 use measures::Row;
 use measures::Size;
 use tree::Found;

@@ -23,9 +23,9 @@ use Rattle.sharing.specs.Laws.{free-some}
 use Rattle.owning.specs.Owning.{Held, held}
 use Rattle.moving.specs.Moving.{toFree}
 use Rattle.saving.specs.Saving.{saving, savingBy}
-use Rattle.unsharing.specs.Unsharing.{sharedTo}
-use Rattle.storing.specs.Storing.{inPlace, writtenAt}
-use Rattle.writing.specs.Writing.{writeVerdict, written}
+use Rattle.writes.specs.Unsharing.{sharedTo}
+use Rattle.writes.specs.Storing.{inPlace, writtenAt}
+use Rattle.writes.specs.Writing.{writeVerdict, written}
 use Rattle.intact.specs.Intact.{Intact}
 use Rattle.wrote.specs.WroteBytes.{put-long, saved-long}
 use Rattle.wrote.specs.WroteAllowed.{Allowed, write-allowed}

@@ -13,8 +13,8 @@ use Rattle.answers.specs.Answers.{bad-length, bad-row, unknown-tag, places-full
 use Rattle.answers.specs.Laws.{refusal-passed}
 use Rattle.edits.specs.Solve.{lives-node}
 use Rattle.sharing.specs.Sharing.{sharedAt}
-use Rattle.unsharing.specs.Unsharing.{fullTest}
-use Rattle.writing.specs.Writing.{writeTests, writeVerdict}
+use Rattle.writes.specs.Unsharing.{fullTest}
+use Rattle.writes.specs.Writing.{writeTests, writeVerdict}
 
 pub record Allowed (z : Records) (tag r : ℕ) (bs : List ℕ) (v : ℕ) : Type 0 where
   pub width : length bs ≡ z .size .width

@@ -2,7 +2,7 @@
 use borrow.Author.Needs.{needs}
 use mathlib.Core.Path.{refl}
 use native.Mathlib.Omega.{arith}
-use Rattle.applying.specs.Laws.{ready-room, ready-write, turn-step, no-change}
+use Rattle.lines.specs.TurnLaws.{ready-room, ready-write, turn-step, no-change}
 use Rattle.applying.proofs.change.Statement.{statement}
 use Rattle.applying.proofs.change.Tie as tie
 

@@ -3,7 +3,7 @@ use borrow.Author.Needs.{needs}
 use borrow.Author.Tests.{not-false}
 use mathlib.Core.Path.{_≡_, refl, sym, _∙_}
 use mathlib.Core.Option.{some}
-use Rattle.deleting.specs.Laws.{origin-refused, tag-refused, accepted, deleted-version, deletable}
+use Rattle.deletes.specs.Laws.{origin-refused, tag-refused, accepted, deleted-version, deletable}
 use Rattle.soundness.specs.Judged.{judged-sound, judged-unsound, leaves-refused, leaves-done}
 use Rattle.answers.specs.Answers.{origin-tag, unknown-tag}
 use Rattle.tree.specs.Rules.{found-at, found-missing}

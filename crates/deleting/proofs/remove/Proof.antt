@@ -1,8 +1,8 @@
 -- `deleting::remove` meets its contract. Assumes nothing.
 use borrow.Author.Needs.{needs}
 use mathlib.Core.Path.{_∙_}
-use Rattle.deleting.specs.Laws.{freeable, thin-low, left-same}
-use Rattle.deleting.specs.Deleting.{deletedAt}
+use Rattle.deletes.specs.Laws.{freeable, thin-low, left-same}
+use Rattle.deletes.specs.Deleting.{deletedAt}
 use Rattle.removal.specs.FreedLists.{freed-only}
 use Rattle.records.specs.Records.{recordsOf, table}
 use Rattle.deleting.proofs.remove.Statement.{statement}

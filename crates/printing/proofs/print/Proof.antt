@@ -1,6 +1,6 @@
 -- `printing::print` meets its contract. Assumes nothing.
 use borrow.Author.Needs.{needs}
-use Rattle.printing.specs.Laws.{printed-long, printed-short}
+use Rattle.lines.specs.PrintLaws.{printed-long, printed-short}
 use Rattle.printing.proofs.print.Statement.{statement}
 use Rattle.printing.proofs.print.Tie as tie
 

@@ -1,7 +1,7 @@
 -- `printing::serve` meets its contract. Assumes nothing.
 use borrow.Author.Needs.{needs}
 use mathlib.Core.Path.{refl}
-use Rattle.printing.specs.Laws.{program-serves}
+use Rattle.lines.specs.PrintLaws.{program-serves}
 use Rattle.printing.proofs.serve.Statement.{statement}
 use Rattle.printing.proofs.serve.Tie as tie
 

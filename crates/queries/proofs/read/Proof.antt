@@ -10,7 +10,7 @@ use Rattle.records.specs.Records.{recordsOf}
 use Rattle.trees.specs.Trees.{version}
 use Rattle.records.specs.Sound.{Sound}
 use Rattle.tree.specs.Rules.{found-at, found-missing}
-use Rattle.queries.specs.Laws.{read-unsound, read-length, read-row, read-tag, read-done, version-used, looking, read-inside}
+use Rattle.reads.specs.Laws.{read-unsound, read-length, read-row, read-tag, read-done, version-used, looking, read-inside}
 use Rattle.queries.proofs.read.Statement.{statement}
 use Rattle.queries.proofs.read.Tie as tie
 

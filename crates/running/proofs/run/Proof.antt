@@ -6,7 +6,7 @@ use native.Mathlib.Omega.{arith}
 use Rattle.basics.specs.Decide.{passed, failed}
 use Rattle.records.specs.Records.{recordsOf}
 use Rattle.records.specs.Sound.{Sound}
-use Rattle.running.specs.Laws.{run-unsound, run-places, run-long, run-room, run-done}
+use Rattle.lines.specs.StreamLaws.{run-unsound, run-places, run-long, run-room, run-done}
 use Rattle.running.proofs.run.Statement.{statement}
 use Rattle.running.proofs.run.Tie as tie
 

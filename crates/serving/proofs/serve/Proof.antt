@@ -2,7 +2,7 @@
 use borrow.Author.Needs.{needs}
 use mathlib.Core.Path.{refl}
 use native.Mathlib.Omega.{arith}
-use Rattle.applying.specs.Laws.{ready-room, turn-step, turn-stop, turn-over, a-change}
+use Rattle.lines.specs.TurnLaws.{ready-room, turn-step, turn-stop, turn-over, a-change}
 use Rattle.serving.proofs.serve.Statement.{statement}
 use Rattle.serving.proofs.serve.Tie as tie
 

@@ -3,7 +3,7 @@ use borrow.Author.Needs.{needs}
 use mathlib.Core.Path.{_≡_, refl, sym, _∙_}
 use mathlib.Core.Option.{some, none}
 use native.Mathlib.Omega.{arith}
-use Rattle.snapshots.specs.Laws.{zero-refused, source-refused, alive-refused, full-refused, accepted, room, tree-of-source}
+use Rattle.takes.specs.Laws.{zero-refused, source-refused, alive-refused, full-refused, accepted, room, tree-of-source}
 use Rattle.soundness.specs.Judged.{judged-sound, judged-unsound, leaves-refused, leaves-done}
 use Rattle.tree.specs.Nodes.{version-alive}
 use Rattle.tree.specs.Rules.{found-at, found-missing}

@@ -2,9 +2,9 @@
 use borrow.Author.Needs.{needs}
 use mathlib.Core.Path.{_≡_, refl, sym, _∙_}
 use mathlib.Core.Bool.{true, false}
-use Rattle.storing.specs.Ways.{unshared-passes, written-in-place, written-shared}
-use Rattle.storing.specs.Laws.{sharing-of, looking-of, inside-place}
-use Rattle.storing.specs.Storing.{inPlace}
+use Rattle.writes.specs.StoringWays.{unshared-passes, written-in-place, written-shared}
+use Rattle.writes.specs.StoringLaws.{sharing-of, looking-of, inside-place}
+use Rattle.writes.specs.Storing.{inPlace}
 use Rattle.owning.specs.Laws.{held-same}
 use Rattle.sharing.specs.Laws.{shared-decides}
 use Rattle.sharing.specs.Sharing.{SharedAt, sharedAt}

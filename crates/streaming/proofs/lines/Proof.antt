@@ -6,8 +6,8 @@ use lib.Dec.{T}
 use types.Part.{whole, sub}
 use denote.Struct.Laws as laws
 use Rattle.commands.specs.Format.{stepAt}
-use Rattle.applying.specs.Turns.{Ready, reached, Turned}
-use Rattle.streaming.specs.Loop.{Begins, Through, toGo, Going, going-start, going-ready, going-next, going-less, going-end}
+use Rattle.lines.specs.Turns.{Ready, reached, Turned}
+use Rattle.lines.specs.Loop.{Begins, Through, toGo, Going, going-start, going-ready, going-next, going-less, going-end}
 use Rattle.progress.proofs.Progress as G
 use Rattle.progress.proofs.Progress.Laws as G′
 use Rattle.turning.proofs.Turns.{Carried, Facts, look-part, lines-meets}

@@ -2,7 +2,7 @@
 use borrow.Author.Needs.{needs}
 use mathlib.Core.Path.{_≡_, sym, _∙_}
 use mathlib.Core.Option.{some}
-use Rattle.unsharing.specs.Ways.{full-refused, free-passes, shared-saving, shared-to-free}
+use Rattle.writes.specs.UnsharingWays.{full-refused, free-passes, shared-saving, shared-to-free}
 use Rattle.owning.specs.Laws.{writable-at}
 use Rattle.sharing.specs.Laws.{free-some}
 use Rattle.sharing.specs.Sharing.{freeEntry}

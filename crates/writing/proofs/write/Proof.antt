@@ -3,7 +3,7 @@ use borrow.Author.Needs.{needs}
 use mathlib.Core.Path.{refl}
 use native.Mathlib.Nat.{mul-le-mul}
 use native.Mathlib.Omega.{arith}
-use Rattle.writing.specs.Ways.{places-refused, width-refused}
+use Rattle.writes.specs.WritingWays.{places-refused, width-refused}
 use Rattle.soundness.specs.Judged.{judged-sound, judged-unsound, leaves-refused}
 use Rattle.answers.specs.Answers.{bad-length}
 use Rattle.records.specs.Sound.{Sound}

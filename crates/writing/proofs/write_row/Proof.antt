@@ -3,7 +3,7 @@ use borrow.Author.Needs.{needs}
 use mathlib.Core.Path.{_≡_, sym, _∙_}
 use mathlib.Core.Option.{some}
 use Prim.Native.Nat.{_<_}
-use Rattle.writing.specs.Ways.{row-refused, tag-refused, tag-passed, written-version}
+use Rattle.writes.specs.WritingWays.{row-refused, tag-refused, tag-passed, written-version}
 use Rattle.soundness.specs.Judged.{leaves-refused, leaves-same}
 use Rattle.answers.specs.Answers.{bad-row, unknown-tag}
 use Rattle.tree.specs.Nodes.{version-alive}

@@ -1,2 +1,0 @@
-pub mod Queries
-pub mod Laws

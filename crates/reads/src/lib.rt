@@ -1,0 +1,1 @@
+// What a read answers, in specs/. There is no code here.

@@ -1,3 +1,0 @@
-pub mod Storing
-pub mod Laws
-pub mod Ways

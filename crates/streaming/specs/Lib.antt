@@ -1,2 +1,0 @@
-pub mod Output
-pub mod Loop

@@ -1,2 +1,0 @@
-pub mod Unsharing
-pub mod Ways

@@ -1,0 +1,7 @@
+pub mod Unsharing
+pub mod UnsharingWays
+pub mod Storing
+pub mod StoringWays
+pub mod StoringLaws
+pub mod Writing
+pub mod WritingWays
