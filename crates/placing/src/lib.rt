@@ -1,5 +1,6 @@
 // The bytes of places: where a row lies, and a row written to a place. Each place's bytes are lent on as a part of the buffer.
 ghost use mathlib.Core.Path.{_≡_};
+ghost use mathlib.Core.List.{[]};
 ghost use lib.ListN.{length};
 ghost use Rattle.measures.specs.Measures.{beginsAt, bytesAt};
 ghost use Rattle.placing.specs.Placing.{putAt, Inside, Lies};
@@ -25,6 +26,13 @@ pub fn part<'a>(places: &'a [u8], width: usize, place: Place) -> &'a [u8]
     let start = measures::offset(width, place);
     let to = start + width;
     &places[start..to]
+}
+
+// The empty part at the front of the places.
+pub fn nothing<'a>(places: &'a [u8]) -> &'a [u8]
+    ensures { λ s. ⌜ (now s ≡ []) × Lies (places .entry .ptr) 0 (s .ptr) ⌝ }
+{
+    &places[..0]
 }
 
 // A row is written to a place; every other byte is as it was.

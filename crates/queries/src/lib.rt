@@ -1,20 +1,10 @@
 // The call that reads a row of a version. It changes nothing.
-ghost use mathlib.Core.Path.{_≡_};
-ghost use mathlib.Core.List.{[]};
 ghost use Rattle.records.specs.Records.{recordsOf};
-ghost use Rattle.placing.specs.Placing.{Lies};
 ghost use Rattle.reads.specs.Reads.{ReadEnds, ReadPart};
 use measures::Row;
 use measures::Size;
 use tree::Found;
 use trees::Tree;
-
-// The empty part at the front of the places.
-fn nothing<'a>(places: &'a [u8]) -> &'a [u8]
-    ensures { λ s. ⌜ (now s ≡ []) × Lies (places .entry .ptr) 0 (s .ptr) ⌝ }
-{
-    &places[..0]
-}
 
 // Refusals: 20, 2, 3, 21. The row is handed out where it lies in the places; a refusal hands out the empty part at their front.
 pub fn read<'a, 'b>(
@@ -32,21 +22,21 @@ pub fn read<'a, 'b>(
 {
     if !soundness::sound(size, tree, node, row) {
         *answer = 20;
-        return nothing(places);
+        return placing::nothing(places);
     }
     if places.len() != size.places * size.width {
         *answer = 2;
-        return nothing(places);
+        return placing::nothing(places);
     }
     let rows = size.rows;
     if !measures::has_row(rows, r) {
         *answer = 3;
-        return nothing(places);
+        return placing::nothing(places);
     }
     let found = tree::version(&tree.state, &tree.tag, &tree.parent, tag);
     let Found::At(n) = found else {
         *answer = 21;
-        return nothing(places);
+        return placing::nothing(places);
     };
     *answer = 0;
     let place = reading::lookup(&tree.state, &tree.tag, &tree.parent, rows, node, row, n, r);

@@ -32,5 +32,5 @@ pub fn command_here<'a>(reader: Reader<'a>, width: usize) -> Step
     requires { ⌜ width ≤ 1024 ⌝ }
     ensures { λ s. ⌜ s ≡ stepAt width (now (reader .entry .stream)) (reader .entry .at) ⌝ }
 {
-    commands::next(reader.stream, reader.at, width)
+    decoding::next(reader.stream, reader.at, width)
 }

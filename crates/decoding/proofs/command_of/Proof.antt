@@ -1,11 +1,11 @@
--- `commands::command_of` meets its contract. Assumes nothing.
+-- `decoding::command_of` meets its contract. Assumes nothing.
 use borrow.Author.Needs.{needs}
 use native.Mathlib.Omega.{arith}
 use borrow.Author.Tests.{eq-eqb, ne-eqb}
 use Rattle.commands.specs.Laws.{two-operands, one-operand}
 use Rattle.commands.specs.Format.{commandOf}
-use Rattle.commands.proofs.command_of.Statement.{statement}
-use Rattle.commands.proofs.command_of.Tie as tie
+use Rattle.decoding.proofs.command_of.Statement.{statement}
+use Rattle.decoding.proofs.command_of.Tie as tie
 
 shared-slice-read-kind : tie.Need-shared-slice-read-kind
 shared-slice-read-kind c = search needs

@@ -1,13 +1,13 @@
--- `commands::next` meets its contract. Assumes nothing.
+-- `decoding::next` meets its contract. Assumes nothing.
 use borrow.Author.Needs.{needs}
 use native.Mathlib.Omega.{arith}
 use mathlib.Core.Path.{sym}
 use borrow.Author.Tests.{le-leb, lt-leb, lt-ltb, le-ltb, eq-eqb, ne-eqb}
 use Rattle.commands.specs.Format.{stepAt}
 use Rattle.commands.specs.Laws.{known-number}
 use Rattle.basics.specs.Decide.{at}
-use Rattle.commands.proofs.next.Statement.{statement}
-use Rattle.commands.proofs.next.Tie as tie
+use Rattle.decoding.proofs.next.Statement.{statement}
+use Rattle.decoding.proofs.next.Tie as tie
 
 returns : tie.Need-returns
 unfolding stepAt
