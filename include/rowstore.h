@@ -47,7 +47,7 @@ enum {
   ROWSTORE_UNKNOWN_TAG = 21,    /* no living version has the tag */
   ROWSTORE_TAG_ALIVE = 22,      /* a living snapshot has the new tag */
   ROWSTORE_SNAPSHOTS_FULL = 23, /* the most snapshots are alive */
-  ROWSTORE_PLACES_FULL = 24     /* a shared row, and no place is free */
+  ROWSTORE_PLACES_FULL = 24     /* a shared row to change, and no place free */
 };
 
 /* Limits. Each measure is at least 1, and count at least rows. */
@@ -125,7 +125,8 @@ uint8_t rowstore_read(const uint8_t *records, size_t records_len,
 
 /* Writes a row of a version. No other version's rows change. A row that
  * another version shares takes one more place; any other is written where it
- * is, even if no place is free.
+ * is, even if no place is free. Bytes that the version reads there already are
+ * accepted and change nothing: no place is taken, even of a shared row.
  *
  * records  changed
  * places   changed
@@ -138,7 +139,8 @@ uint8_t rowstore_read(const uint8_t *records, size_t records_len,
  *   ROWSTORE_BAD_LENGTH   places_len or bytes_len is wrong
  *   ROWSTORE_BAD_ROW      the store has no such row
  *   ROWSTORE_UNKNOWN_TAG  no living version has the tag
- *   ROWSTORE_PLACES_FULL  the row is shared and every place is in use
+ *   ROWSTORE_PLACES_FULL  the row is shared, every place is in use and the
+ *                         bytes are others
  */
 uint8_t rowstore_write(uint8_t *records, size_t records_len, uint8_t *places,
                        size_t places_len, uint16_t tag, size_t row,

@@ -76,6 +76,9 @@ impl Copies {
         if let Err(refusal) = self.row_refusal(places_len, tag, row, bytes.len()) {
             return refusal;
         }
+        if self.row(tag, row) == bytes {
+            return ACCEPTED;
+        }
         if self.shared(tag, row) && self.places_in_use() == self.measures.places {
             return NO_PLACE;
         }

@@ -111,13 +111,16 @@ fn usual<S: Store>(title: &str) -> Trial<S> {
 }
 
 fn listed_cases<S: Store>() {
-    let cases: [fn() -> Tally; 6] = [
+    let cases: [fn() -> Tally; 9] = [
         rows_after_opening::<S>,
         tags_of_a_snapshot::<S>,
         write_above_a_reader::<S>,
         full_store::<S>,
         no_snapshot_places::<S>,
         sixty_four_snapshots::<S>,
+        zeros_written_again::<S>,
+        equal_bytes_in_a_full_store::<S>,
+        equal_bytes_above_a_reader::<S>,
     ];
     let title = format!("listed cases, {}", S::NAME);
     let tallies = cases.map(|case| case());
@@ -205,6 +208,40 @@ fn sixty_four_snapshots<S: Store>() -> Tally {
     assert_eq!(trial.snapshot(64, 65), 23);
     assert_eq!(trial.delete(30), 0);
     assert_eq!(trial.snapshot(0, 65), 0);
+    trial.tally
+}
+
+fn zeros_written_again<S: Store>() -> Tally {
+    let mut trial = usual::<S>("zeros written again");
+    assert_eq!(trial.snapshot(0, 7), 0);
+    assert_eq!(trial.write(0, 0, 0), 0);
+    assert!(trial.copies.shares(0, 7, 0));
+    assert_eq!(trial.copies.count(), (4, 1));
+    trial.tally
+}
+
+fn equal_bytes_in_a_full_store<S: Store>() -> Tally {
+    let mut trial = usual::<S>("equal bytes in a full store");
+    assert_eq!(trial.snapshot(0, 7), 0);
+    assert_eq!(trial.write(7, 0, 0x70), 0);
+    assert_eq!(trial.write(7, 1, 0x71), 0);
+    assert_eq!(trial.write(7, 2, 0), 0);
+    assert_eq!(trial.write(7, 2, 0x72), 24);
+    assert_eq!(trial.write(0, 2, 0), 0);
+    assert_eq!(trial.write(0, 2, 0x02), 24);
+    assert_eq!(trial.copies.count(), (6, 1));
+    trial.tally
+}
+
+fn equal_bytes_above_a_reader<S: Store>() -> Tally {
+    let mut trial = usual::<S>("equal bytes above a reader");
+    assert_eq!(trial.snapshot(0, 7), 0);
+    assert_eq!(trial.snapshot(7, 8), 0);
+    assert_eq!(trial.write(7, 0, 0), 0);
+    assert_eq!(trial.parsed().ghosts(), 0);
+    // Other bytes make a ghost, since 8 reads the row too.
+    assert_eq!(trial.write(7, 0, 0x71), 0);
+    assert_eq!(trial.parsed().ghosts(), 1);
     trial.tally
 }
 

@@ -65,6 +65,15 @@ const SHAPES: [&str; 7] = [
     "node with several children under a ghost",
 ];
 
+/// To what kinds of row equal bytes must have been written.
+const EQUAL_WRITES: [&str; 5] = [
+    "a row of its own",
+    "a shared row of a full store",
+    "a shared row of the origin",
+    "a shared row of a snapshot with children",
+    "a shared row of a snapshot",
+];
+
 const REFUSALS: [u8; 9] = [2, 3, 4, 5, 20, 21, 22, 23, 24];
 
 for_each_store!(small_stores, large_stores, deep_chains);
@@ -95,6 +104,7 @@ fn small_stores<S: Store>() {
     tally.print(&title);
     tally.require(&title, &REFUSALS);
     tally.require_deletes(&title, &SHAPES);
+    tally.require_equal_writes(&title, &EQUAL_WRITES);
     assert!(tally.snapshots == 64 && tally.ghosts >= 4, "{title}");
 }
 
@@ -130,6 +140,7 @@ fn large_stores<S: Store>() {
     tally.print(&title);
     tally.require(&title, &REFUSALS);
     tally.require_deletes(&title, &SHAPES[..4]);
+    tally.require_equal_writes(&title, &EQUAL_WRITES);
     assert!(tally.snapshots == 64 && tally.full > 0, "{title}");
 }
 

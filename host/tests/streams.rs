@@ -63,8 +63,31 @@ fn hexadecimal(bytes: &[u8]) -> String {
     bytes.iter().map(|byte| format!("{byte:02x}")).collect()
 }
 
+/// What streams met: how often each answer, and writes of equal bytes to shared rows, in a full store or not.
+#[derive(Debug, Default)]
+struct Seen {
+    answers: BTreeMap<u8, usize>,
+    equal: usize,
+    equal_when_full: usize,
+}
+
+impl Seen {
+    fn answer(&mut self, answer: u8) {
+        *self.answers.entry(answer).or_default() += 1;
+    }
+
+    fn write(&mut self, copies: &Copies, tag: u16, row: usize, bytes: &[u8]) {
+        let known = copies.tags().contains(&tag) && row < SHELF.rows;
+        if known && copies.shared(tag, row) && copies.row(tag, row) == bytes {
+            let full = copies.count().0 == SHELF.places;
+            self.equal += usize::from(!full);
+            self.equal_when_full += usize::from(full);
+        }
+    }
+}
+
 /// A call on the full copies: its answer, and what is shown of it.
-fn answered(copies: &mut Copies, kind: u8, operands: &[u8]) -> (u8, String) {
+fn answered(copies: &mut Copies, kind: u8, operands: &[u8], seen: &mut Seen) -> (u8, String) {
     let dash = String::from("-");
     match kind {
         1 => (
@@ -80,8 +103,9 @@ fn answered(copies: &mut Copies, kind: u8, operands: &[u8]) -> (u8, String) {
         }
         3 => {
             let row = usize::from(number(&operands[2..]));
-            let answer = copies.write(PLACES_LEN, number(operands), row, &operands[4..]);
-            (answer, dash)
+            let (tag, bytes) = (number(operands), &operands[4..]);
+            seen.write(copies, tag, row, bytes);
+            (copies.write(PLACES_LEN, tag, row, bytes), dash)
         }
         4 => (copies.delete(number(operands)), dash),
         _ => {
@@ -91,10 +115,10 @@ fn answered(copies: &mut Copies, kind: u8, operands: &[u8]) -> (u8, String) {
     }
 }
 
-/// What is due, and how often each answer is in it.
-fn due(stream: &[u8], seen: &mut BTreeMap<u8, usize>) -> Vec<u8> {
+/// What is due.
+fn due(stream: &[u8], seen: &mut Seen) -> Vec<u8> {
     if stream.len() > 4096 {
-        *seen.entry(8).or_default() += 1;
+        seen.answer(8);
         return b"0 8 -\n".to_vec();
     }
     let mut copies = Copies::open(SHELF.records_len(), PLACES_LEN, SHELF).expect("it opens");
@@ -104,10 +128,10 @@ fn due(stream: &[u8], seen: &mut BTreeMap<u8, usize>) -> Vec<u8> {
     while let Some(command) = reader.next() {
         line += 1;
         let (answer, shown) = match command {
-            Ok((kind, operands)) => answered(&mut copies, kind, operands),
+            Ok((kind, operands)) => answered(&mut copies, kind, operands, seen),
             Err(refusal) => (refusal, String::from("-")),
         };
-        *seen.entry(answer).or_default() += 1;
+        seen.answer(answer);
         writeln!(text, "{line} {answer} {shown}").expect("a vector takes every line");
         if command.is_err() {
             break;
@@ -130,7 +154,13 @@ fn command(dice: &mut Dice, stream: &mut Vec<u8>) {
         2 => stream.extend([tag(dice), row(dice)].concat()),
         3 => {
             stream.extend([tag(dice), row(dice)].concat());
-            stream.extend(dice.bytes(SHELF.width));
+            // Every second row is of few kinds, so that it is often written as it is already.
+            let bytes = match dice.below(4) {
+                0 => vec![0; SHELF.width],
+                1 => vec![1; SHELF.width],
+                _ => dice.bytes(SHELF.width),
+            };
+            stream.extend(bytes);
         }
         4 => stream.extend(tag(dice)),
         _ => {}
@@ -155,7 +185,7 @@ fn stream(dice: &mut Dice) -> Vec<u8> {
     bytes
 }
 
-fn compare(stream: &[u8], what: &str, seen: &mut BTreeMap<u8, usize>) {
+fn compare(stream: &[u8], what: &str, seen: &mut Seen) {
     let expected = due(stream, seen);
     let got = printed(stream);
     assert!(
@@ -169,21 +199,23 @@ fn compare(stream: &[u8], what: &str, seen: &mut BTreeMap<u8, usize>) {
 #[test]
 fn drawn_streams() {
     const SEEDS: u64 = 600;
-    let mut seen = BTreeMap::new();
+    let mut seen = Seen::default();
     for seed in 0..SEEDS {
         let bytes = stream(&mut Dice::new(seed));
         compare(&bytes, &format!("seed {seed}"), &mut seen);
     }
     for answer in [0, 3, 4, 5, 6, 7, 21, 22, 24] {
-        assert!(seen.contains_key(&answer), "no answer {answer} in {seen:?}");
+        let met = seen.answers.contains_key(&answer);
+        assert!(met, "no answer {answer} in {seen:?}");
     }
-    println!("drawn streams: seeds 0 to {}, answers {seen:?}", SEEDS - 1);
+    assert!(seen.equal > 0 && seen.equal_when_full > 0, "{seen:?}");
+    println!("drawn streams: seeds 0 to {}, {seen:?}", SEEDS - 1);
 }
 
 /// The longest stream, one more byte, and none.
 #[test]
 fn lengths_of_streams() {
-    let mut seen = BTreeMap::new();
+    let mut seen = Seen::default();
     for len in [0, 1, 4095, 4096, 4097, 5000, 70000] {
         compare(&vec![5; len], &format!("{len} counts"), &mut seen);
     }
@@ -192,6 +224,6 @@ fn lengths_of_streams() {
         rows.extend([2, 0, 0, 0, 3]);
     }
     compare(&rows, "only reads", &mut seen);
-    assert!(seen[&8] == 3 && seen[&0] > 8000, "{seen:?}");
-    println!("lengths of streams: answers {seen:?}");
+    assert!(seen.answers[&8] == 3 && seen.answers[&0] > 8000, "{seen:?}");
+    println!("lengths of streams: {seen:?}");
 }

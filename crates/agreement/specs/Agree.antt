@@ -6,7 +6,7 @@ use Prim.Native.Nat.{ℕ}
 use Rattle.measures.specs.declared.Size.{Size}
 use Rattle.answers.specs.Answers.{Refusal, Answer, refused}
 use Rattle.answers.specs.Tests.{refusal, unless}
-use Rattle.maps.specs.Map.{Map, joined, left, Alike, Write, Mirrors}
+use Rattle.maps.specs.Map.{Map, joined, left, Alike, Save, Mirrors}
 use Rattle.model.specs.Call.{Call, snapshot, read, write, delete, count}
 use Rattle.model.specs.Model.{Model, tests, accepted}
 
@@ -19,13 +19,13 @@ module _ (z : Size) where
   unfoldable pub Effect : RowMap → Call → RowMap → Type 0
   Effect m (snapshot s t) m′ = Alike (z .rows) m′ (joined s t m)
   Effect m (read t r) m′ = Alike (z .rows) m′ m
-  Effect m (write t r bs) m′ = Write (z .rows) m t r bs m′
+  Effect m (write t r bs) m′ = Save (z .rows) m t r bs m′
   Effect m (delete t) m′ = Alike (z .rows) m′ (left t m)
   Effect m count m′ = Alike (z .rows) m′ m
 
   -- the verdict and the answer of a call on the map: the reference model's tests, with places for marks
   unfoldable pub mapVerdict : RowMap → Call → Option Refusal
-  mapVerdict m c = refusal (tests z (m .tags) (m .place) c)
+  mapVerdict m c = refusal (tests z (m .tags) (m .place) (λ d. m .content (m .place d)) c)
 
   unfoldable pub mapAnswer : RowMap → Call → Answer
   mapAnswer m c = unless (mapVerdict m c) refused (accepted z (m .tags) (m .place) (λ d. m .content (m .place d)) c)

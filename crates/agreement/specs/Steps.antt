@@ -4,13 +4,14 @@ use mathlib.Core.List.{List, _∷_}
 use mathlib.Core.Option.{Option, none, some}
 use Prim.Native.Nat.{ℕ, _<_}
 use lib.ListN.{replicate}
+use Rattle.basics.specs.Equal.{equal, equal-refl, equal-true}
 use Rattle.measures.specs.declared.Size.{Size}
 use Rattle.model.specs.Call.{Call, snapshot, read, write, delete, count}
 use Rattle.answers.specs.Answers.{Refusal, Answer}
 use Rattle.copies.specs.Copies.{Cell, Live, placesUsed}
 use Rattle.maps.specs.Map.{firstMap, Alike}
 use Rattle.maps.specs.Keeping.{used-same, first-mirrors, start-mirrors, alike-keeps, snapshot-keeps, delete-keeps}
-use Rattle.maps.specs.Writing.{write-keeps}
+use Rattle.maps.specs.Writing.{save-keeps}
 use Rattle.model.specs.Model.{Model, effect, opened, verdict, answer, after, answers, final}
 use Rattle.answers.specs.Tests.{unless}
 use Rattle.agreement.specs.Agree.{RowMap, Effect, Step, Runs, done, next, Agree}
@@ -23,10 +24,10 @@ alike-agree z a k = record { rows = alike-keeps (z .rows) (a .rows) k }
 module _ (z : Size) {m : RowMap} {s : Model} (a : Agree z m s) where
   effect-agree : (c : Call) {m′ : RowMap} → verdict z s c ≡ none → Effect z m c m′ → Agree z m′ (effect s c)
   unfolding verdict Effect effect
-  effect-agree (snapshot u t) e k = record { rows = alike-keeps (z .rows) (snapshot-keeps (z .rows) (a .rows) u t (snapshot-passed z (s .snapshots) (s .rows .mark) u t e)) k }
+  effect-agree (snapshot u t) e k = record { rows = alike-keeps (z .rows) (snapshot-keeps (z .rows) (a .rows) u t (snapshot-passed z (s .snapshots) (s .rows .mark) (s .rows .content) u t e)) k }
   effect-agree (read t r) e k = alike-agree z a k
-  effect-agree (write t r bs) e k = record { rows = write-keeps (z .rows) (a .rows) t r bs (write-passed z (s .snapshots) (s .rows .mark) t r bs e) k }
-  effect-agree (delete t) e k = record { rows = alike-keeps (z .rows) (delete-keeps (z .rows) (a .rows) t (delete-passed z (s .snapshots) (s .rows .mark) t e)) k }
+  effect-agree (write t r bs) e k = record { rows = save-keeps (z .rows) (a .rows) equal equal-refl equal-true t r bs (write-passed z (s .snapshots) (s .rows .mark) (s .rows .content) t r bs e) k }
+  effect-agree (delete t) e k = record { rows = alike-keeps (z .rows) (delete-keeps (z .rows) (a .rows) t (delete-passed z (s .snapshots) (s .rows .mark) (s .rows .content) t e)) k }
   effect-agree count e k = alike-agree z a k
 
   -- accepted or refused

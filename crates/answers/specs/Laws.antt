@@ -52,6 +52,12 @@ number-some tag-alive e = omega (arith, e)
 number-some snapshots-full e = omega (arith, e)
 number-some places-full e = omega (arith, e)
 
+-- later tests may be compared as if the earlier ones did not hold
+pub refusal-same : (b : Bool) (r : Refusal) (ts us : Tests) → (b ≡ false → refusal ts ≡ refusal us) → refusal ((b, r) ∷ ts) ≡ refusal ((b, r) ∷ us)
+unfolding refusal
+refusal-same true r ts us h = refl
+refusal-same false r ts us h = h refl
+
 -- a verdict with the number 0 accepts
 pub verdict-none : (v : Option Refusal) → verdictNumber v ≡ 0 → v ≡ none
 verdict-none none e = refl

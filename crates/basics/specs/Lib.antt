@@ -1,3 +1,4 @@
 pub mod Decide
+pub mod Equal
 pub mod Count
 pub mod CountLaws

@@ -85,3 +85,7 @@ module _ {A : Type 0} where
   -- v at c, under a new mark
   abbrev pub renewed : Cell → A → Copies A → Copies A
   renewed c v k = record { content = put c v (k .content); mark = put c (k .next) (k .mark); next = suc (k .next) }
+
+  -- v at c: under a new mark, or, if by a test it is there already, as it was
+  abbrev pub saved : (A → A → Bool) → Cell → A → Copies A → Copies A
+  saved same c v k = cond (same v (k .content c)) k (renewed c v k)

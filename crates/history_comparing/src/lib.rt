@@ -1,7 +1,5 @@
 // The store beside the full copy: answers, counts, rows, sharing, and what a refusal leaves. A comparison gives the
 // number of what differs, or 0.
-use history_numbers::get;
-use history_numbers::get8;
 use history_plans::COUNT;
 use history_plans::Call;
 use history_plans::READ;
@@ -49,18 +47,6 @@ fn counts<'a>(size: Size, tree: Tree, node: &'a [u8], row: &'a [u16], copies: &[
     first(answered, first(used, alive))
 }
 
-// Are these the bytes of a version's row?
-fn same(copies: &[usize], slot: usize, r: usize, bytes: &[u8]) -> bool {
-    let mut i: usize = 0;
-    while i < bytes.len() {
-        if get(copies, history_slots::byte_at(slot, r, i)) != get8(bytes, i) {
-            return false;
-        }
-        i += 1;
-    }
-    true
-}
-
 // The bytes of a row, or none of a row that was refused.
 fn same_bytes(
     width: usize,
@@ -76,7 +62,8 @@ fn same_bytes(
     if bytes.len() != width {
         return false;
     }
-    same(copies, history_slots::slot_of(copies, tag), r, bytes)
+    let slot = history_slots::slot_of(copies, tag);
+    history_slots::holds(copies, slot, r, bytes, width)
 }
 
 // Reads a row from both.

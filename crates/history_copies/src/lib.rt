@@ -1,5 +1,5 @@
 // The calls on the full copy: a store that keeps every version whole, written without a look at the reference model. A
-// row that is written gets a new mark, so that rows with one mark are those that share.
+// row that is written with other bytes gets a new mark, so that rows with one mark are those that share.
 use history_numbers::add;
 use history_numbers::get;
 use history_numbers::get8;
@@ -66,6 +66,9 @@ fn mark(copies: &mut [usize], slot: usize, r: usize) {
 fn write(copies: &mut [usize], call: Call) {
     let slot = slot_of(copies, call.tag);
     let bytes = call.bytes;
+    if history_slots::holds(copies, slot, call.row, &bytes, call.length) {
+        return;
+    }
     set(copies, slot, call.row, &bytes, call.length);
     mark(copies, slot, call.row);
 }

@@ -1,4 +1,5 @@
 // The dice, and the calls that are drawn with them.
+use history_numbers::get;
 use history_numbers::sum;
 use history_plans::COUNT;
 use history_plans::Call;
@@ -31,6 +32,26 @@ fn fill(bytes: &mut [u8], dice: &mut usize) {
         let x = draw(dice, 256);
         bytes[i] = (x % 256) as u8;
         i += 1;
+    }
+}
+
+// The bytes that a version's row has.
+fn copy_row(copies: &[usize], tag: u16, r: usize, bytes: &mut [u8]) {
+    let slot = history_slots::slot_of(copies, tag);
+    let mut i: usize = 0;
+    while i < bytes.len() {
+        let x = get(copies, history_slots::byte_at(slot, r, i));
+        bytes[i] = (x % 256) as u8;
+        i += 1;
+    }
+}
+
+// Drawn bytes; one time in five those that are there.
+fn some_bytes(copies: &[usize], tag: u16, r: usize, bytes: &mut [u8], dice: &mut usize) {
+    if draw(dice, 5) == 0 {
+        copy_row(copies, tag, r, bytes);
+    } else {
+        fill(bytes, dice);
     }
 }
 
@@ -87,6 +108,7 @@ fn blank(kind: u8, tag: u16) -> Call {
         row: 0,
         length: 0,
         bytes: [0u8; 16],
+        way: 0,
         dice: 0,
     }
 }
@@ -103,8 +125,10 @@ fn write(plan: Plan, copies: &[usize], dice: &mut usize) -> Call {
     call.row = some_row(plan.size.rows, dice);
     call.length = some_length(plan.size.width, dice);
     let mut bytes = [0u8; 16];
-    fill(&mut bytes, dice);
+    some_bytes(copies, call.tag, call.row, &mut bytes, dice);
     call.bytes = bytes;
+    let way = history_refusals::way_of(copies, plan.size, call);
+    call.way = way;
     call
 }
 

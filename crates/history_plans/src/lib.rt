@@ -21,7 +21,7 @@ pub const COUNT: u8 = 3;
 pub const READ: u8 = 4;
 
 // A call, its kind one of the five: the version that it is made on, a new snapshot's tag, a row, the length and the bytes
-// to be written; and the dice as the draw left them.
+// to be written, and what is to become of these; and the dice as the draw left them.
 pub struct Call {
     pub kind: u8,
     pub tag: u16,
@@ -29,6 +29,7 @@ pub struct Call {
     pub row: usize,
     pub length: usize,
     pub bytes: [u8; 16],
+    pub way: usize,
     pub dice: usize,
 }
 

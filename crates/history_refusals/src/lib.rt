@@ -1,5 +1,6 @@
 // What the full copy answers: 0, or the refusal.
 use history_numbers::get;
+use history_numbers::sum;
 use history_plans::Call;
 use history_plans::DELETE;
 use history_plans::READ;
@@ -72,24 +73,59 @@ pub fn read_refusal(copies: &[usize], rows: usize, tag: u16, r: usize) -> u8 {
     0
 }
 
-// Is there no place left for the row?
-fn full(copies: &[usize], size: Size, tag: u16, r: usize) -> bool {
-    if shared(copies, slot_of(copies, tag), r) {
-        return history_slots::used(copies, size.rows) == size.places;
+// What becomes of a write of a living version's row: its bytes are there already, or others, and the row is its own, shared,
+// or shared while every place is in use.
+pub const OWN: usize = 0;
+
+pub const SHARED: usize = 1;
+
+pub const FULL: usize = 2;
+
+pub const EQUAL: usize = 3;
+
+fn standing(copies: &[usize], size: Size, slot: usize, r: usize) -> usize {
+    if !shared(copies, slot, r) {
+        return OWN;
     }
-    false
+    if history_slots::used(copies, size.rows) < size.places {
+        return SHARED;
+    }
+    FULL
+}
+
+// The standing, with EQUAL added if the bytes are there already.
+fn way(copies: &[usize], size: Size, slot: usize, r: usize, bytes: &[u8]) -> usize {
+    let found = standing(copies, size, slot, r);
+    if history_slots::holds(copies, slot, r, bytes, size.width) {
+        return sum(found, EQUAL);
+    }
+    found
+}
+
+// 2, 3, 21, or 0.
+fn unwritten(copies: &[usize], size: Size, call: Call) -> u8 {
+    if call.length != size.width {
+        return 2;
+    }
+    read_refusal(copies, size.rows, call.tag, call.row)
+}
+
+// What becomes of a write, or FULL if it is refused for another reason.
+pub fn way_of(copies: &[usize], size: Size, call: Call) -> usize {
+    if unwritten(copies, size, call) != 0 {
+        return FULL;
+    }
+    let bytes = call.bytes;
+    way(copies, size, slot_of(copies, call.tag), call.row, &bytes)
 }
 
 // 2, 3, 21, 24, or 0.
-fn write_refusal(copies: &[usize], size: Size, tag: u16, r: usize, length: usize) -> u8 {
-    if length != size.width {
-        return 2;
+fn write_refusal(copies: &[usize], size: Size, call: Call) -> u8 {
+    let early = unwritten(copies, size, call);
+    if early != 0 {
+        return early;
     }
-    let unread = read_refusal(copies, size.rows, tag, r);
-    if unread != 0 {
-        return unread;
-    }
-    if full(copies, size, tag, r) {
+    if way_of(copies, size, call) == FULL {
         return 24;
     }
     0
@@ -100,7 +136,7 @@ pub fn refusal(copies: &[usize], size: Size, call: Call) -> u8 {
     let kind = call.kind;
     match kind {
         SNAPSHOT => snapshot_refusal(copies, call.tag, call.new),
-        WRITE => write_refusal(copies, size, call.tag, call.row, call.length),
+        WRITE => write_refusal(copies, size, call),
         DELETE => delete_refusal(copies, call.tag),
         READ => read_refusal(copies, size.rows, call.tag, call.row),
         _ => 0,

@@ -1,6 +1,7 @@
 // The full copy, as it is read: every version whole, in a slot of 128 numbers (alive or not, tag, a mark for each row, the
 // bytes). There are 65 slots, slot 0 the origin's, of up to 8 rows of up to 8 bytes; the next mark stands behind them.
 use history_numbers::get;
+use history_numbers::get8;
 use history_numbers::sum;
 
 pub const SLOTS: usize = 65;
@@ -59,6 +60,18 @@ pub fn first_from(copies: &[usize], slot: usize, living: bool) -> usize {
         s += 1;
     }
     SLOTS
+}
+
+// Are the first n of these bytes those of a slot's row?
+pub fn holds(copies: &[usize], slot: usize, r: usize, bytes: &[u8], n: usize) -> bool {
+    let mut i: usize = 0;
+    while i < n {
+        if get(copies, byte_at(slot, r, i)) != get8(bytes, i) {
+            return false;
+        }
+        i += 1;
+    }
+    true
 }
 
 // The tag of a slot.

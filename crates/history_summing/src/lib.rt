@@ -37,12 +37,20 @@ pub fn show_refusals(tally: &[usize]) {
     text(b"\n");
 }
 
-// How many nodes of each shape were deleted, and how many differences there are.
+// How many nodes of each shape were deleted, how often equal bytes were written, and how many differences there are.
 pub fn show_end(tally: &[usize]) {
     entry(b"deleted: leaves ", tally, history_tallying::LEAVES);
     entry(b", with one child ", tally, history_tallying::SINGLE);
     entry(b", with several ", tally, history_tallying::SEVERAL);
     entry(b", under a ghost ", tally, history_tallying::UNDER_GHOST);
+    entry(
+        b"\nequal bytes written: own rows ",
+        tally,
+        history_tallying::EQUAL_OWN,
+    );
+    entry(b", shared rows ", tally, history_tallying::EQUAL_SHARED);
+    entry(b", in a full store ", tally, history_tallying::EQUAL_FULL);
+    entry(b", above children ", tally, history_tallying::EQUAL_ABOVE);
     entry(b"\ndifferences ", tally, history_tallying::TOTAL);
     text(b"\n");
 }

@@ -1,10 +1,12 @@
 // The tally of the test: what is counted of a configuration and of the whole run, and where the run is.
+use history_numbers::above;
 use history_numbers::add;
 use history_numbers::put;
 use history_numbers::sum;
 use history_plans::Call;
 use history_plans::DELETE;
 use history_plans::SNAPSHOT;
+use history_plans::WRITE;
 use trees::Tree;
 
 // Of a configuration.
@@ -38,6 +40,16 @@ pub const SINGLE: usize = 266;
 pub const SEVERAL: usize = 267;
 
 pub const UNDER_GHOST: usize = 268;
+
+// Equal bytes written in the whole run: to a row of the version's own, a shared one, one in a full store; and to a shared one of
+// a version with children.
+pub const EQUAL_OWN: usize = 269;
+
+pub const EQUAL_SHARED: usize = 270;
+
+pub const EQUAL_FULL: usize = 271;
+
+pub const EQUAL_ABOVE: usize = 272;
 
 // A configuration begins.
 pub fn clear(tally: &mut [usize]) {
@@ -91,12 +103,32 @@ fn count_shape(tally: &mut [usize], tree: Tree, tag: u16) {
     );
 }
 
+// A write of the bytes that were there.
+fn count_equal(tally: &mut [usize], tree: Tree, call: Call) {
+    if call.way < history_refusals::EQUAL {
+        return;
+    }
+    let way = above(call.way, history_refusals::EQUAL);
+    add(tally, sum(EQUAL_OWN, way));
+    if way != history_refusals::OWN {
+        let n = history_sharers::node_of(tree, call.tag);
+        add_if(tally, EQUAL_ABOVE, children(tree, n) > 0);
+    }
+}
+
+fn count_delete(tally: &mut [usize], tree: Tree, tag: u16) {
+    add(tally, DELETES);
+    count_shape(tally, tree, tag);
+}
+
 // A call that was not refused, on the tree before it.
 fn count_kind(tally: &mut [usize], tree: Tree, call: Call) {
-    add_if(tally, SNAPSHOTS, call.kind == SNAPSHOT);
-    if call.kind == DELETE {
-        add(tally, DELETES);
-        count_shape(tally, tree, call.tag);
+    let kind = call.kind;
+    match kind {
+        SNAPSHOT => add(tally, SNAPSHOTS),
+        WRITE => count_equal(tally, tree, call),
+        DELETE => count_delete(tally, tree, call.tag),
+        _ => {}
     }
 }
 

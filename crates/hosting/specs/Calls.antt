@@ -40,7 +40,7 @@ roomTests z count = []
 
 module _ (z : Size) where
   unfoldable pub hostVerdict : Model → HostCall → Option Refusal
-  hostVerdict m c = refusal (roomTests z c ++ tests z (m .snapshots) (m .rows .mark) (onRecords c))
+  hostVerdict m c = refusal (roomTests z c ++ tests z (m .snapshots) (m .rows .mark) (m .rows .content) (onRecords c))
 
   -- one call: its answer, and the model after it; a refusal changes nothing
   unfoldable pub hostAnswer : Model → HostCall → Answer

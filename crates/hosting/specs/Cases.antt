@@ -36,7 +36,7 @@ module _ (z : Size) where
   unfolding Alike hostAnswer hostAfter hostVerdict answer after verdict
   alike m (on-records.snapshot source new) = (refl, refl)
   alike m (on-records.read tag r) =
-      let v = refusal-next bad-length (tests z (m .snapshots) (m .rows .mark) (on-records.read tag r)) (not-no (eq-eqb (z .width) (z .width) refl)) in
+      let v = refusal-next bad-length (tests z (m .snapshots) (m .rows .mark) (m .rows .content) (on-records.read tag r)) (not-no (eq-eqb (z .width) (z .width) refl)) in
       (rw v, rw v)
   alike m (on-records.write tag r bs) = (refl, refl)
   alike m (on-records.delete tag) = (refl, refl)
@@ -57,7 +57,7 @@ AllOpen (c ∷ cs) = Opens c × AllOpen cs
 
 pub cases-open : AllOpen cases
 unfolding refusal inMeasure openTests
-cases-open = (refl, (refl, (refl, (refl, (refl, (refl, (refl, (refl, (refl, (refl, tt))))))))))
+cases-open = (refl, (refl, (refl, (refl, (refl, (refl, (refl, (refl, (refl, (refl, (refl, (refl, (refl, tt)))))))))))))
 
 -- so every opening from C with such buffers gets the line's number, and the calls on what it left hand out what the line says
 pub case-runs : (c : Case) → Meets c → Opens c → (b places : List ℕ) → length b ≡ c .records → length places ≡ c .places → (number : ℕ) (b₀ places₀ : List ℕ)

@@ -112,13 +112,13 @@ module _ (z : Size) (m : Model) where
   room-fits : (tag r n : ℕ) → n ≡ z .width → (hostAnswer z m (read tag r n) ≡ answer z m (on-records.read tag r)) × (hostAfter z m (read tag r n) ≡ after z m (on-records.read tag r))
   unfolding hostAnswer hostAfter hostVerdict answer after verdict
   room-fits tag r n e =
-      let v : hostVerdict z m (read tag r n) ≡ verdict z m (on-records.read tag r) = refusal-next bad-length (tests z (m .snapshots) (m .rows .mark) (on-records.read tag r)) (not-no (eq-eqb n (z .width) e)) in
+      let v : hostVerdict z m (read tag r n) ≡ verdict z m (on-records.read tag r) = refusal-next bad-length (tests z (m .snapshots) (m .rows .mark) (m .rows .content) (on-records.read tag r)) (not-no (eq-eqb n (z .width) e)) in
       (rw v, rw v)
 
   room-wrong : (tag r n : ℕ) → n ≢ z .width → (hostAnswer z m (read tag r n) ≡ refused bad-length) × (hostAfter z m (read tag r n) ≡ m)
   unfolding hostAnswer hostAfter hostVerdict
   room-wrong tag r n e =
-      let v : hostVerdict z m (read tag r n) ≡ some bad-length = refusal-here bad-length (tests z (m .snapshots) (m .rows .mark) (on-records.read tag r)) (not-yes (ne-eqb n (z .width) e)) in
+      let v : hostVerdict z m (read tag r n) ≡ some bad-length = refusal-here bad-length (tests z (m .snapshots) (m .rows .mark) (m .rows .content) (on-records.read tag r)) (not-yes (ne-eqb n (z .width) e)) in
       (rw v, rw v)
 
 -- what is to be shown of one call from C
@@ -226,7 +226,7 @@ guarantee-opened z b places b₀ places₀ o t = let (f, e, run) = opened-runs z
 
 -- From bytes of sound records, with P × B bytes of places
 
-loaded-whole : (b : List ℕ) → Fits b → Whole (loaded b .tree)
+pub loaded-whole : (b : List ℕ) → Fits b → Whole (loaded b .tree)
 unfolding loaded
 loaded-whole b f = record { state = long statesAt 128 (omega (arith, f .long)); tag = numbers-size _ 128 (long tagsAt 256 (omega (arith, f .long))); parent = long parentsAt 128 (omega (arith, f .long)) }
   where

@@ -61,6 +61,11 @@ module _ {A : Type 0} (n : ℕ) where
     to-free : shared (m .tags) (m .place) t r ≡ true → t ≢ 0 → (q : ℕ) → Free m q → Alike m′ (moved m (t, r) v q) → Write m t r v m′
     saving : shared (m .tags) (m .place) t r ≡ true → t ≡ 0 → (q : ℕ) → Free m q → Alike m′ (saved m r v q) → Write m t r v m′
 
+  -- A row that is saved: it stays as it was if it holds v already, else v is written
+  pub data Save (m : Map A) (t r : ℕ) (v : A) (m′ : Map A) : Type 0 where
+    untouched : m .content (m .place (t, r)) ≡ v → Alike m′ m → Save m t r v m′
+    touched : m .content (m .place (t, r)) ≢ v → Write m t r v m′ → Save m t r v m′
+
   -- A map that mirrors copies: the same tags live; every row holds the same; one place exactly if one mark, and only at one row; marks below the next
   pub record Mirrors (m : Map A) (tags : List ℕ) (s : Copies A) : Type 0 where
     pub living : (t : ℕ) → alive (m .tags) t ≡ alive tags t

@@ -1,15 +1,15 @@
--- A map goes on mirroring copies by a write, whichever of the three ways it goes. Assumes nothing.
+-- A map goes on mirroring copies by a write, whichever of the three ways it goes, and by a row that is saved. Assumes nothing.
 use mathlib.Core.Path.{_≡_, refl, sym, _∙_, ap}
 use mathlib.Core.Logic.{_≢_, _↔_, _⊎_, inl, inr, by-cases, Iff·rfl}
-use mathlib.Core.Bool.{false}
+use mathlib.Core.Bool.{Bool, true, false, cond}
 use mathlib.Core.List.{List}
 use Prim.Native.Nat.{ℕ, _<_}
 use native.Mathlib.Decide.{ℕ-discrete}
 use native.Mathlib.Omega.{arith}
-use Rattle.copies.specs.Copies.{Cell, Copies, Live, shared, put, renewed}
+use Rattle.copies.specs.Copies.{Cell, Copies, Live, shared, put, renewed, saved as savedCopies}
 use Rattle.copies.specs.Living.{alive-origin}
 use Rattle.copies.specs.Counting.{shared-none}
-use Rattle.maps.specs.Map.{Map, poke, kept, moved, divert, saved, Free, Write, in-place, to-free, saving, Mirrors}
+use Rattle.maps.specs.Map.{Map, poke, kept, moved, divert, saved, Free, Write, in-place, to-free, saving, Save, untouched, touched, Mirrors}
 use Rattle.maps.specs.Updates.{same-cell, put-at, put-off, poke-at, poke-off, renamed, renamed-iff, renamed-other, divert-origin, divert-renames}
 use Rattle.maps.specs.Keeping.{in-map, alike-keeps}
 
@@ -129,3 +129,15 @@ module _ {A : Type 0} (n : ℕ) {m : Map A} {tags : List ℕ} {s : Copies A} (a 
   write-keeps t r v l (in-place e k) = alike-keeps n (wrote-keeps t r v (kept-wrote t r v l e)) k
   write-keeps t r v l (to-free e h q free k) = alike-keeps n (wrote-keeps t r v (moved-wrote t r v q h free)) k
   write-keeps t r v l (saving e h q free k) = alike-keeps n (rw h (wrote-keeps 0 r v (saved-wrote r v q (l .1) free))) k
+
+  -- by a test of what is the same
+  module _ (same : A → A → Bool) (yes : (x : A) → same x x ≡ true) (no : (x y : A) → same x y ≡ true → x ≡ y) where
+    pub save-keeps : (t r : ℕ) (v : A) {m′ : Map A} → Live n tags (t, r) → Save n m t r v m′ → Mirrors n m′ tags (savedCopies same (t, r) v s)
+    save-keeps t r v l (untouched e k) =
+        let h : same v (s .content (t, r)) ≡ true = rw (sym (a .content (t, r) l) ∙ e) (yes v) in
+        rw h (alike-keeps n a k)
+    save-keeps t r v {m′} l (touched d w) = go (same v (s .content (t, r))) refl
+      where
+        go : (b : Bool) → same v (s .content (t, r)) ≡ b → Mirrors n m′ tags (cond b s (renewed (t, r) v s))
+        go true h = absurd (d (a .content (t, r) l ∙ sym (no v (s .content (t, r)) h)))
+        go false h = write-keeps t r v l w

@@ -7,7 +7,8 @@ use Prim.Native.Nat.{ℕ}
 use lib.Dec.{eqb, leb}
 use lib.ListN.{length, replicate}
 use Rattle.measures.specs.declared.Size.{Size}
-use Rattle.copies.specs.Copies.{Cell, Copies, alive, snapshotsAlive, shared, placesUsed, without, fresh, copied, renewed}
+use Rattle.copies.specs.Copies.{Cell, Copies, alive, snapshotsAlive, shared, placesUsed, without, fresh, copied, saved}
+use Rattle.basics.specs.Equal.{equal}
 use Rattle.model.specs.Call.{Call, snapshot, read, write, delete, count}
 use Rattle.answers.specs.Answers.{Refusal, bad-length, bad-row, zero-tag, origin-tag, unknown-tag, tag-alive, snapshots-full, places-full, Answer, done, row, counts, refused}
 use Rattle.answers.specs.Tests.{Tests, refusal, unless}
@@ -20,31 +21,31 @@ pub record Model : Type 0 where
 
 -- The tests of each call, in the order of SPEC 7.1
 
-module _ (z : Size) (tags : List ℕ) (mark : Cell → ℕ) where
+module _ (z : Size) (tags : List ℕ) (mark : Cell → ℕ) (bytes : Cell → List ℕ) where
   unfoldable pub tests : Call → Tests
   tests (snapshot s t) =
       (eqb t 0, zero-tag) ∷ (not (alive tags s), unknown-tag) ∷ (alive tags t, tag-alive) ∷ (leb 64 (snapshotsAlive tags), snapshots-full) ∷ []
   tests (read t r) = (leb (z .rows) r, bad-row) ∷ (not (alive tags t), unknown-tag) ∷ []
   tests (write t r bs) =
       (not (eqb (length bs) (z .width)), bad-length) ∷ (leb (z .rows) r, bad-row) ∷ (not (alive tags t), unknown-tag)
-      ∷ (shared tags mark t r && leb (z .places) (placesUsed (z .rows) tags mark), places-full) ∷ []
+      ∷ (shared tags mark t r && leb (z .places) (placesUsed (z .rows) tags mark) && not (equal bs (bytes (t, r))), places-full) ∷ []
   tests (delete t) = (eqb t 0, origin-tag) ∷ (not (alive tags t), unknown-tag) ∷ []
   tests count = []
 
-  -- the answer of a call that is accepted, from the bytes of the rows
-  unfoldable pub accepted : (Cell → List ℕ) → Call → Answer
-  accepted bytes (snapshot s t) = done
-  accepted bytes (read t r) = row (bytes (t, r))
-  accepted bytes (write t r bs) = done
-  accepted bytes (delete t) = done
-  accepted bytes count = counts (placesUsed (z .rows) tags mark) (snapshotsAlive tags)
+  -- the answer of a call that is accepted
+  unfoldable pub accepted : Call → Answer
+  accepted (snapshot s t) = done
+  accepted (read t r) = row (bytes (t, r))
+  accepted (write t r bs) = done
+  accepted (delete t) = done
+  accepted count = counts (placesUsed (z .rows) tags mark) (snapshotsAlive tags)
 
 -- What an accepted call does
 
 unfoldable pub effect : Model → Call → Model
 effect m (snapshot s t) = record { snapshots = t ∷ m .snapshots; rows = copied s t (m .rows) }
 effect m (read t r) = m
-effect m (write t r bs) = record { snapshots = m .snapshots; rows = renewed (t, r) bs (m .rows) }
+effect m (write t r bs) = record { snapshots = m .snapshots; rows = saved equal (t, r) bs (m .rows) }
 effect m (delete t) = record { snapshots = without t (m .snapshots); rows = m .rows }
 effect m count = m
 
@@ -54,7 +55,7 @@ module _ (z : Size) where
   opened = record { snapshots = []; rows = fresh (z .rows) (replicate (z .width) 0) }
 
   unfoldable pub verdict : Model → Call → Option Refusal
-  verdict m c = refusal (tests z (m .snapshots) (m .rows .mark) c)
+  verdict m c = refusal (tests z (m .snapshots) (m .rows .mark) (m .rows .content) c)
 
   -- one call: its answer, and the model after it; a refusal changes nothing
   unfoldable pub answer : Model → Call → Answer

@@ -4,6 +4,7 @@ use mathlib.Core.List.{List, [], _∷_, map}
 use mathlib.Core.Option.{none, some}
 use Prim.Native.Nat.{ℕ, zero, suc}
 use lib.ListN.{replicate}
+use Rattle.basics.specs.Equal.{equal}
 use Rattle.measures.specs.declared.Size.{Size}
 use Rattle.model.specs.Call.{Call, snapshot, read, write, delete, count}
 use Rattle.answers.specs.Answers.{bad-size, bad-length, done, row, counts, refused, bad-row, zero-tag, origin-tag, unknown-tag, tag-alive, snapshots-full, places-full}
@@ -24,7 +25,7 @@ stream = snapshot 0 7 ∷ write 0 2 (eight 0xa1) ∷ read 7 2 ∷ read 0 2 ∷ c
 -- the eight lines of SPEC 9.4
 worked : answers small (opened small) stream
     ≡ done ∷ done ∷ row (eight 0) ∷ row (eight 0xa1) ∷ counts 5 1 ∷ done ∷ counts 4 0 ∷ refused unknown-tag ∷ []
-unfolding stream eight any different alive snapshotsAlive shared placesUsed refusal tests accepted adopt put without effect opened verdict answer after answers
+unfolding equal stream eight any different alive snapshotsAlive shared placesUsed refusal tests accepted adopt put without effect opened verdict answer after answers
 worked = refl
 
 -- two rows of one byte, three places
@@ -34,14 +35,20 @@ tiny = record { rows = 2; width = 1; places = 3 }
 refusals : answers tiny (opened tiny)
     (snapshot 0 7 ∷ write 0 1 (5 ∷ []) ∷ write 7 0 (9 ∷ []) ∷ snapshot 0 0 ∷ snapshot 8 8 ∷ snapshot 7 7 ∷ read 0 2 ∷ read 8 0 ∷ write 0 0 [] ∷ write 0 2 [] ∷ delete 0 ∷ delete 8 ∷ write 0 1 (5 ∷ []) ∷ count ∷ [])
     ≡ done ∷ done ∷ refused places-full ∷ refused zero-tag ∷ refused unknown-tag ∷ refused tag-alive ∷ refused bad-row ∷ refused unknown-tag ∷ refused bad-length ∷ refused bad-length ∷ refused origin-tag ∷ refused unknown-tag ∷ done ∷ counts 3 1 ∷ []
-unfolding any different alive snapshotsAlive shared placesUsed refusal tests accepted adopt put without effect opened verdict answer after answers
+unfolding equal any different alive snapshotsAlive shared placesUsed refusal tests accepted adopt put without effect opened verdict answer after answers
 refusals = refl
 
 -- a snapshot has its source's bytes, and keeps them
 copies : answers tiny (opened tiny) (write 0 0 (9 ∷ []) ∷ snapshot 0 7 ∷ write 0 0 (8 ∷ []) ∷ snapshot 7 8 ∷ delete 7 ∷ read 8 0 ∷ read 0 0 ∷ count ∷ [])
     ≡ done ∷ done ∷ done ∷ done ∷ done ∷ row (9 ∷ []) ∷ row (8 ∷ []) ∷ counts 3 1 ∷ []
-unfolding any different alive snapshotsAlive shared placesUsed refusal tests accepted adopt put without effect opened verdict answer after answers
+unfolding equal any different alive snapshotsAlive shared placesUsed refusal tests accepted adopt put without effect opened verdict answer after answers
 copies = refl
+
+-- a row written as it is keeps its mark: the origin's that is shared, and a snapshot's in a full store, where other bytes are refused
+untouched : answers tiny (opened tiny) (snapshot 0 7 ∷ write 0 0 (0 ∷ []) ∷ count ∷ write 7 1 (9 ∷ []) ∷ write 7 0 (0 ∷ []) ∷ write 7 0 (9 ∷ []) ∷ count ∷ [])
+    ≡ done ∷ done ∷ counts 2 1 ∷ done ∷ done ∷ refused places-full ∷ counts 3 1 ∷ []
+unfolding equal any different alive snapshotsAlive shared placesUsed refusal tests accepted adopt put without effect opened verdict answer after answers
+untouched = refl
 
 snapshotsOfOrigin : ℕ → List Call
 snapshotsOfOrigin zero = []
@@ -49,7 +56,7 @@ snapshotsOfOrigin (suc n) = snapshot 0 (suc n) ∷ snapshotsOfOrigin n
 
 -- the 65th snapshot is refused
 too-many : answer tiny (final tiny (opened tiny) (snapshotsOfOrigin 64)) (snapshot 0 99) ≡ refused snapshots-full
-unfolding snapshotsOfOrigin any different alive snapshotsAlive shared placesUsed refusal tests accepted adopt put without effect opened verdict answer after final
+unfolding equal snapshotsOfOrigin any different alive snapshotsAlive shared placesUsed refusal tests accepted adopt put without effect opened verdict answer after final
 too-many = refl
 
 -- opening: L = 4, B = 8, P = 6 with its buffers; L = 0; P below L; a byte of the places missing; an entry of the table missing

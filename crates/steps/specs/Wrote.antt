@@ -1,18 +1,19 @@
 -- A write is a step of the place map: what it answers and leaves of a sound store is what the reference model's tests say. Assumes nothing.
 use mathlib.Core.Path.{_≡_, refl, sym, _∙_, ap}
-use mathlib.Core.Logic.{_≢_}
+use mathlib.Core.Logic.{_≢_, ⊎-elim}
 use mathlib.Core.Bool.{true, false}
 use mathlib.Core.List.{List}
 use mathlib.Core.Option.{Option, none, some}
 use Prim.Native.Nat.{ℕ, _+_, _<_}
 use lib.ListN.{set}
+use Rattle.basics.specs.Equal.{equal-true, equal-false}
 use Rattle.records.specs.Records.{Records, table}
 use Rattle.model.specs.Call.{write}
 use Rattle.answers.specs.Answers.{Refusal, done, refused}
 use Rattle.copies.specs.Copies.{shared, Live}
 use Rattle.model.specs.Model.{accepted}
 use Rattle.answers.specs.Tests.{unless}
-use Rattle.maps.specs.Map.{Alike, Free, Write, in-place, to-free, saving}
+use Rattle.maps.specs.Map.{Alike, Free, Write, in-place, to-free, saving, Save, untouched, touched}
 use Rattle.agreement.specs.Agree.{Effect, mapAnswer, Step}
 use Rattle.edits.specs.Edits.{Whole, FreeEntry}
 use Rattle.edits.specs.Solve.{lives-node, version-lives, tag-place}
@@ -24,15 +25,16 @@ use Rattle.owning.specs.Owning.{Held, held, partedTree, partedNode}
 use Rattle.moving.specs.Moving.{toFree}
 use Rattle.saving.specs.Saving.{saving as savingHeld, savingBy}
 use Rattle.writes.specs.Storing.{inPlace}
+use Rattle.writes.specs.Touching.{untouchedAt}
 use Rattle.writes.specs.Writing.{writeVerdict, written}
 use Rattle.intact.specs.Intact.{Intact}
 use Rattle.wrote.specs.WroteAllowed.{Allowed, write-allowed}
 use Rattle.intact.specs.Tags.{origin-tag, snapshot-tag}
 use Rattle.wrote.specs.WroteRecords.{free-low, free-unread, row-moved, row-saved}
-use Rattle.wrote.specs.Wrote.{writeLeft, heldRecords, by-ways, write-intact}
+use Rattle.wrote.specs.Wrote.{writeLeft, heldRecords, by-ways, untouched-written, write-intact}
 use Rattle.steps.specs.SharedTags.{shared-view}
 use Rattle.steps.specs.WroteMap.{kept-alike, moved-alike, saved-alike}
-use Rattle.steps.specs.WroteVerdict.{same-verdict}
+use Rattle.steps.specs.WroteVerdict.{reads, same-verdict}
 
 -- what is shown of what an accepted write leaves
 record Wrote (z : Records) (places : List ℕ) (tag r : ℕ) (bs : List ℕ) (h : Held) : Type 0 where
@@ -82,10 +84,14 @@ module _ (z : Records) (places : List ℕ) (st : Store z places) (w : Whole (z .
                 (saved-alike z places st r bs (a .width) (z .tree) (set (z .node) i c) (set (z .row) i r) (z .size .rows + i) low (a .low) m);
           })
 
-  allowed-wrote : writeVerdict z places tag r bs ≡ none → Wrote z places tag r bs (written z places tag r bs)
+  allowed-wrote : writeVerdict z places tag r bs ≡ none → Save (z .size .rows) (view z places) tag r bs (view (heldRecords (z .size) (written z places tag r bs)) (written z places tag r bs .places))
+  unfolding untouchedAt
   allowed-wrote e =
-      let (v, a) = write-allowed z places tag r bs e in
-      by-ways z (st .sound) places tag r bs v a (Wrote z places tag r bs) (wrote-in-place v a) (wrote-to-free v a) (wrote-saving v a)
+      let (v, h, w) = write-allowed z places tag r bs e in
+      ⊎-elim
+      (λ t. rw (untouched-written z places tag r bs v h t) (untouched (reads z places st tag r bs v h ∙ sym (equal-true bs _ t)) (record { tags = λ u. refl; place = λ c l. refl; content = λ c l. refl })))
+      (λ (t, a). touched (λ q. equal-false bs _ t (sym q ∙ reads z places st tag r bs v h)) (by-ways z (st .sound) places tag r bs v a t (Wrote z places tag r bs) (wrote-in-place v a) (wrote-to-free v a) (wrote-saving v a) .effect))
+      w
 
   abbrev left : Option Refusal → Held
   left o = unless o (λ x. held (z .tree) (z .node) (z .row) places) (written z places tag r bs)
@@ -100,7 +106,7 @@ module _ (z : Records) (places : List ℕ) (st : Store z places) (w : Whole (z .
     where
       go : (o : Option Refusal) → writeVerdict z places tag r bs ≡ o
           → unless o (λ x. Alike (z .size .rows) (view (heldRecords (z .size) (left o)) (left o .places)) (view z places)) (Effect (z .size) (view z places) (write tag r bs) (view (heldRecords (z .size) (left o)) (left o .places)))
-      go none e = allowed-wrote e .effect
+      go none e = allowed-wrote e
       go (some x) e = record { tags = λ u. refl; place = λ c l. refl; content = λ c l. refl }
 
   stays : Intact (heldRecords (z .size) (writeLeft z places tag r bs)) (writeLeft z places tag r bs .places)

@@ -3,18 +3,21 @@
 use mathlib.Core.Path.{_≡_, refl, sym, _∙_}
 use mathlib.Core.List.{List, [], _∷_, map}
 use Prim.Native.Nat.{ℕ}
+use native.Mathlib.Omega.{arith}
 use lib.ListN.{length, replicate}
 use Rattle.measures.specs.declared.Size.{Size}
 use Rattle.trees.specs.declared.Tree.{Tree}
 use Rattle.records.specs.Records.{recordsOf}
 use Rattle.answers.specs.Tests.{refusal, verdictNumber, inMeasure, openTests}
 use Rattle.answers.specs.Laws.{verdict-none}
+use Rattle.basics.specs.Equal.{equal}
 use Rattle.model.specs.Call.{Call, snapshot, read, write, delete, count}
 use Rattle.copies.specs.Copies.{any, different, alive, snapshotsAlive, shared, placesUsed, adopt, put, without}
-use Rattle.model.specs.Model.{tests, accepted, effect, opened, verdict, answer, after, answers}
+use Rattle.model.specs.Model.{tests, accepted, effect, opened, verdict, answer, after, answers, final}
 use Rattle.opening.specs.Opening.{openVerdict, Opening}
-use Rattle.theorem.specs.Trace.{State, state, Handed, handed, Trace, handedOf}
+use Rattle.theorem.specs.Trace.{State, state, Handed, handed, Call-ends, Trace, over, handedOf}
 use Rattle.theorem.specs.Theorem.{theorem-opened}
+use Rattle.theorem.specs.Stores.{write-untouched}
 
 pub record Case : Type 0 where
   -- the opening: its measures, and how long the lent buffers are: bytes of places, entries of each half of the table, bytes of records from C
@@ -52,9 +55,12 @@ turned l b p places entries records number = record {
 }
 
 -- calls on L = 4, B = 8, P = 6
+abbrev usual : Size
+usual = record { rows = 4; width = 8; places = 6 }
+
 abbrev on : List Call → List Handed → Case
 on cs hs = record {
-  size = record { rows = 4; width = 8; places = 6 };
+  size = usual;
   places = 48;
   entries = 2;
   records = 524;
@@ -97,11 +103,16 @@ cases =
     (snapshot 0 7 ∷ write 7 0 (eight 1) ∷ write 7 1 (eight 1) ∷ write 7 2 (eight 1) ∷ write 7 0 (eight 2) ∷ write 0 2 (eight 3) ∷ write 0 0 (eight 3)
     ∷ delete 7 ∷ snapshot 0 9 ∷ write 9 2 (eight 1) ∷ [])
     (says 0 ∷ says 0 ∷ says 0 ∷ says 24 ∷ says 0 ∷ says 24 ∷ says 0 ∷ says 0 ∷ says 0 ∷ says 0 ∷ [])
+    -- a row written as it is: the origin's zeros, shared; in a full store, and then other bytes; above a version that reads it too
+    ∷ on (snapshot 0 7 ∷ write 0 0 (eight 0) ∷ count ∷ []) (says 0 ∷ says 0 ∷ counted 4 1 ∷ [])
+    ∷ on (snapshot 0 7 ∷ write 7 0 (eight 1) ∷ write 7 1 (eight 1) ∷ write 7 2 (eight 0) ∷ write 7 2 (eight 1) ∷ count ∷ [])
+    (says 0 ∷ says 0 ∷ says 0 ∷ says 0 ∷ says 24 ∷ counted 6 1 ∷ [])
+    ∷ on (snapshot 0 7 ∷ snapshot 7 8 ∷ write 7 0 (eight 0) ∷ count ∷ []) (says 0 ∷ says 0 ∷ says 0 ∷ counted 4 2 ∷ [])
     ∷ []
 
 pub cases-met : AllMeet cases
-unfolding any different alive snapshotsAlive shared placesUsed refusal inMeasure openTests tests accepted adopt put without effect opened verdict answer after answers
-cases-met = ((refl, refl), ((refl, refl), ((refl, refl), ((refl, refl), ((refl, refl), ((refl, refl), ((refl, refl), ((refl, refl), ((refl, refl), ((refl, refl), tt))))))))))
+unfolding equal any different alive snapshotsAlive shared placesUsed refusal inMeasure openTests tests accepted adopt put without effect opened verdict answer after answers
+cases-met = ((refl, refl), ((refl, refl), ((refl, refl), ((refl, refl), ((refl, refl), ((refl, refl), ((refl, refl), ((refl, refl), ((refl, refl), ((refl, refl), ((refl, refl), ((refl, refl), ((refl, refl), tt)))))))))))))
 
 -- buffers of a line's lengths
 pub record Lent (c : Case) (p n r : List ℕ) : Type 0 where
@@ -118,3 +129,12 @@ case-runs c met places nodes rows lent number tree places′ nodes′ rows′ o 
   o .answers ∙ rw (lent .bytes, lent .nodes, lent .rows) (met .0),
   λ e hs s′ t. theorem-opened (c .size) places nodes rows number tree places′ nodes′ rows′ o (verdict-none (openVerdict (c .size) places nodes rows) (sym (o .answers) ∙ e)) t .0 ∙ met .1,
 )
+
+-- and the write of the last line leaves the whole store as it was before it: every node of its tree too, so that there is no ghost
+pub no-ghost : (places nodes rows : List ℕ) (number : ℕ) (tree : Tree) (places′ nodes′ rows′ : List ℕ) → Opening usual places nodes rows number tree places′ nodes′ rows′ → number ≡ 0
+    → {hs : List Handed} {h : Handed} {s s′ : State} → Trace (state (recordsOf usual tree nodes′ rows′) places′) (snapshot 0 7 ∷ snapshot 7 8 ∷ []) hs s
+    → Call-ends (s .records) (s .places) (write 7 0 (eight 0)) h s′ → s′ ≡ s
+unfolding openVerdict any different alive snapshotsAlive refusal tests adopt effect opened verdict after final
+no-ghost places nodes rows number tree places′ nodes′ rows′ o e t k =
+    let q = theorem-opened usual places nodes rows number tree places′ nodes′ rows′ o (verdict-none (openVerdict usual places nodes rows) (sym (o .answers) ∙ e)) t .1 in
+    write-untouched (q .store) (q .whole) over k (rw (q .sized)) (rw (q .sized) (omega arith)) (q .living 7) (sym (q .rows 7 0 refl (omega arith))) .1

@@ -1,20 +1,21 @@
--- What follows from the reference model: when a write and a snapshot are accepted, what a delete leaves alone, that 20 is never answered, and that
--- a version lives on and reads as it was left. Stores.antt says the same of stores. Assumes nothing.
+-- What follows from the reference model: when a write and a snapshot are accepted, that a write of the bytes that are there changes nothing, what
+-- a delete leaves alone, that 20 is never answered, and that a version lives on and reads as it was left. Stores.antt says the same of stores. Assumes nothing.
 use mathlib.Core.Path.{_≡_, refl, sym, _∙_, ap}
 use mathlib.Core.Logic.{_≢_, _↔_}
-use mathlib.Core.Bool.{Bool, true, false, not, _&&_, false≢true}
+use mathlib.Core.Bool.{Bool, true, false, not, _&&_, cond, false≢true}
 use mathlib.Core.List.{List, [], _∷_}
 use mathlib.Core.Option.{Option, none, some}
 use Prim.Native.Nat.{ℕ, _≤_, _<_}
 use native.Mathlib.Omega.{arith}
 use lib.Dec.{leb}
 use lib.ListN.{length}
-use borrow.Author.Tests.{eq-eqb, ne-eqb, eqb-false, le-leb, lt-leb, leb-true, leb-false, not-false}
+use borrow.Author.Tests.{eq-eqb, ne-eqb, eqb-false, le-leb, lt-leb, leb-true, leb-false, not-true, not-false}
 use Rattle.basics.specs.Decide.{and-yes, both}
+use Rattle.basics.specs.Equal.{equal, equal-refl, equal-false, equal-not}
 use Rattle.measures.specs.declared.Size.{Size}
 use Rattle.model.specs.Call.{Call, snapshot, read, write, delete, count}
 use Rattle.answers.specs.Answers.{Refusal, places-full, number, Answer, done, row, refused, numberOf}
-use Rattle.copies.specs.Copies.{Cell, alive, snapshotsAlive, shared, placesUsed, adopt}
+use Rattle.copies.specs.Copies.{Cell, alive, snapshotsAlive, shared, placesUsed, adopt, renewed}
 use Rattle.model.specs.Model.{Model, tests, accepted, effect, verdict, answer, after, final}
 use Rattle.answers.specs.Tests.{Tests, orElse, refusal, unless}
 use Rattle.answers.specs.Laws.{refusal-next, refusal-none, number-some}
@@ -39,34 +40,49 @@ full-not true h = absurd (h refl)
 full-not false h = refl
 
 module _ (z : Size) (m : Model) where
-  -- the test for want of a place
-  abbrev wants : ℕ → ℕ → Bool
-  wants t r = shared (m .snapshots) (m .rows .mark) t r && leb (z .places) (placesUsed (z .rows) (m .snapshots) (m .rows .mark))
+  -- a write wants a place: its row is shared, every place is in use, and its bytes are not those that the version reads there
+  abbrev Wants : ℕ → ℕ → List ℕ → Type 0
+  Wants t r bs = (shared (m .snapshots) (m .rows .mark) t r ≡ true) × (z .places ≤ placesUsed (z .rows) (m .snapshots) (m .rows .mark)) × (bs ≢ m .rows .content (t, r))
 
-  wants-iff : (t r : ℕ) → wants t r ≡ true ↔ ((shared (m .snapshots) (m .rows .mark) t r ≡ true) × (z .places ≤ placesUsed (z .rows) (m .snapshots) (m .rows .mark)))
-  wants-iff t r = (
-    λ e. let (x, y) = both (shared (m .snapshots) (m .rows .mark) t r) (leb (z .places) (placesUsed (z .rows) (m .snapshots) (m .rows .mark))) e in (x, leb-true _ _ y),
-    λ h. and-yes (h .0) (le-leb _ _ (h .1)),
+  -- the test for it
+  abbrev wants : ℕ → ℕ → List ℕ → Bool
+  wants t r bs = shared (m .snapshots) (m .rows .mark) t r && leb (z .places) (placesUsed (z .rows) (m .snapshots) (m .rows .mark)) && not (equal bs (m .rows .content (t, r)))
+
+  wants-iff : (t r : ℕ) (bs : List ℕ) → wants t r bs ≡ true ↔ Wants t r bs
+  wants-iff t r bs = (
+    λ e.
+        let full = leb (z .places) (placesUsed (z .rows) (m .snapshots) (m .rows .mark)) in
+        let (k, d) = both (shared (m .snapshots) (m .rows .mark) t r && full) (not (equal bs (m .rows .content (t, r)))) e in
+        let (x, y) = both (shared (m .snapshots) (m .rows .mark) t r) full k in
+        (x, leb-true _ _ y, equal-false _ _ (not-true _ d)),
+    λ h. and-yes (and-yes (h .0) (le-leb _ _ (h .1))) (ap not (equal-not _ _ (h .2))),
   )
 
   -- a write that passes the tests before it has that one left
-  write-left : (t r : ℕ) (bs : List ℕ) → length bs ≡ z .width → r < z .rows → alive (m .snapshots) t ≡ true → verdict z m (write t r bs) ≡ refusal ((wants t r, places-full) ∷ [])
+  write-left : (t r : ℕ) (bs : List ℕ) → length bs ≡ z .width → r < z .rows → alive (m .snapshots) t ≡ true → verdict z m (write t r bs) ≡ refusal ((wants t r bs, places-full) ∷ [])
   unfolding verdict tests
   write-left t r bs l k a =
       refusal-next _ _ (ap not (eq-eqb (length bs) (z .width) l)) ∙ refusal-next _ _ (lt-leb (z .rows) r k) ∙ refusal-next _ _ (ap not a)
 
-  -- of the writes that reach the last test, 24 refuses exactly those whose row is shared while no place is left
-  pub write-full : (t r : ℕ) (bs : List ℕ) → length bs ≡ z .width → r < z .rows → alive (m .snapshots) t ≡ true
-      → (numberOf (answer z m (write t r bs)) ≡ 24) ↔ ((shared (m .snapshots) (m .rows .mark) t r ≡ true) × (z .places ≤ placesUsed (z .rows) (m .snapshots) (m .rows .mark)))
+  -- of the writes that reach the last test, 24 refuses exactly those whose row is shared while no place is left, and whose bytes are others
+  pub write-full : (t r : ℕ) (bs : List ℕ) → length bs ≡ z .width → r < z .rows → alive (m .snapshots) t ≡ true → (numberOf (answer z m (write t r bs)) ≡ 24) ↔ Wants t r bs
   unfolding answer accepted
   write-full t r bs l k a = rw (write-left t r bs l k a)
-      (λ e. wants-iff t r .0 (full-iff (wants t r) .0 e), λ h. full-iff (wants t r) .1 (wants-iff t r .1 h))
+      (λ e. wants-iff t r bs .0 (full-iff (wants t r bs) .0 e), λ h. full-iff (wants t r bs) .1 (wants-iff t r bs .1 h))
 
   -- and otherwise it is accepted
-  pub write-accepted : (t r : ℕ) (bs : List ℕ) → length bs ≡ z .width → r < z .rows → alive (m .snapshots) t ≡ true
-      → ((shared (m .snapshots) (m .rows .mark) t r ≡ true) × (z .places ≤ placesUsed (z .rows) (m .snapshots) (m .rows .mark)) → ⊥) → numberOf (answer z m (write t r bs)) ≡ 0
+  pub write-accepted : (t r : ℕ) (bs : List ℕ) → length bs ≡ z .width → r < z .rows → alive (m .snapshots) t ≡ true → (Wants t r bs → ⊥) → numberOf (answer z m (write t r bs)) ≡ 0
   unfolding answer accepted
-  write-accepted t r bs l k a h = rw (write-left t r bs l k a) (full-not (wants t r) (λ e. h (wants-iff t r .0 e)))
+  write-accepted t r bs l k a h = rw (write-left t r bs l k a) (full-not (wants t r bs) (λ e. h (wants-iff t r bs .0 e)))
+
+  -- a write of the bytes that are there leaves everything as it was
+  pub write-untouched : (t r : ℕ) → after z m (write t r (m .rows .content (t, r))) ≡ m
+  unfolding after effect
+  write-untouched t r = rw (equal-refl (m .rows .content (t, r))) (go (verdict z m (write t r (m .rows .content (t, r)))))
+    where
+      go : (v : Option Refusal) → unless v (λ x. m) m ≡ m
+      go none = refl
+      go (some x) = refl
 
   -- what a snapshot that no test refuses has passed, and back
   snapshot-none : (s t : ℕ) → t ≢ 0 → alive (m .snapshots) s ≡ true → alive (m .snapshots) t ≡ false → snapshotsAlive (m .snapshots) < 64 → verdict z m (snapshot s t) ≡ none
@@ -77,7 +93,7 @@ module _ (z : Size) (m : Model) where
   snapshot-of : (s t : ℕ) → verdict z m (snapshot s t) ≡ none → (t ≢ 0) × (alive (m .snapshots) s ≡ true) × (alive (m .snapshots) t ≡ false) × (snapshotsAlive (m .snapshots) < 64)
   unfolding verdict tests
   snapshot-of s t e =
-      let p = none-passed (tests z (m .snapshots) (m .rows .mark) (snapshot s t)) e in
+      let p = none-passed (tests z (m .snapshots) (m .rows .mark) (m .rows .content) (snapshot s t)) e in
       (eqb-false t 0 (p .0), not-false _ (p .1 .0), p .1 .1 .0, leb-false _ _ (p .1 .1 .1 .0))
 
   -- a snapshot is accepted exactly if its tag is not 0 and not alive, its source lives, and fewer than 64 snapshots are alive
@@ -114,10 +130,10 @@ other (t ∷ ts) a o h = go (t .0) (other ts a (o .1) h)
 -- 20 is never answered
 pub never-unsound : (z : Size) (m : Model) (c : Call) → numberOf (answer z m c) ≢ 20
 unfolding answer verdict tests accepted
-never-unsound z m (snapshot s t) = other (tests z (m .snapshots) (m .rows .mark) (snapshot s t)) done (omega arith, (omega arith, (omega arith, (omega arith, tt)))) (omega arith)
-never-unsound z m (read t r) = other (tests z (m .snapshots) (m .rows .mark) (read t r)) (row (m .rows .content (t, r))) (omega arith, (omega arith, tt)) (omega arith)
-never-unsound z m (write t r bs) = other (tests z (m .snapshots) (m .rows .mark) (write t r bs)) done (omega arith, (omega arith, (omega arith, (omega arith, tt)))) (omega arith)
-never-unsound z m (delete t) = other (tests z (m .snapshots) (m .rows .mark) (delete t)) done (omega arith, (omega arith, tt)) (omega arith)
+never-unsound z m (snapshot s t) = other (tests z (m .snapshots) (m .rows .mark) (m .rows .content) (snapshot s t)) done (omega arith, (omega arith, (omega arith, (omega arith, tt)))) (omega arith)
+never-unsound z m (read t r) = other (tests z (m .snapshots) (m .rows .mark) (m .rows .content) (read t r)) (row (m .rows .content (t, r))) (omega arith, (omega arith, tt)) (omega arith)
+never-unsound z m (write t r bs) = other (tests z (m .snapshots) (m .rows .mark) (m .rows .content) (write t r bs)) done (omega arith, (omega arith, (omega arith, (omega arith, tt)))) (omega arith)
+never-unsound z m (delete t) = other (tests z (m .snapshots) (m .rows .mark) (m .rows .content) (delete t)) done (omega arith, (omega arith, tt)) (omega arith)
 never-unsound z m count = other [] (accepted z (m .snapshots) (m .rows .mark) (m .rows .content) count) tt (omega arith)
 
 -- a call that neither writes a version, deletes it nor takes its tag
@@ -138,7 +154,11 @@ effect-spares : (m : Model) (u r : ℕ) (c : Call) → Spares u c → effect m c
 unfolding effect adopt
 effect-spares m u r (snapshot s t) h = rw (ne-eqb u t (λ e. h (sym e)))
 effect-spares m u r (read t k) h = refl
-effect-spares m u r (write t k bs) h = put-off (t, k) bs (m .rows .content) (λ e. h (sym (ap (λ (c : Cell). c .0) e)))
+effect-spares m u r (write t k bs) h = go (equal bs (m .rows .content (t, k)))
+  where
+    go : (b : Bool) → cond b (m .rows) (renewed (t, k) bs (m .rows)) .content (u, r) ≡ m .rows .content (u, r)
+    go true = refl
+    go false = put-off (t, k) bs (m .rows .content) (λ e. h (sym (ap (λ (c : Cell). c .0) e)))
 effect-spares m u r (delete t) h = refl
 effect-spares m u r count h = refl
 

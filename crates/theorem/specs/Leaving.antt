@@ -1,18 +1,23 @@
 -- What a list of calls leaves is what `leftBy` says of it, to the last byte. Assumes nothing.
 use mathlib.Core.Path.{_≡_, refl, _∙_}
 use mathlib.Core.List.{List}
+use mathlib.Core.Option.{Option, none, some}
 use Prim.Native.Nat.{ℕ}
 use Rattle.trees.specs.declared.Tree.{Tree}
 use Rattle.records.specs.Records.{Records}
 use Rattle.records.specs.Sound.{Sound}
+use Rattle.answers.specs.Answers.{Refusal}
+use Rattle.answers.specs.Tests.{unless}
 use Rattle.answers.specs.Laws.{unless-made}
-use Rattle.model.specs.Call.{Call}
+use Rattle.model.specs.Call.{Call, write}
 use Rattle.model.specs.Model.{Model}
 use Rattle.edits.specs.Edits.{withTree}
 use Rattle.takes.specs.Taking.{snapshotVerdict, snapshotTree}
 use Rattle.owning.specs.Owning.{held}
 use Rattle.writes.specs.Writing.{writeVerdict, written}
 use Rattle.deletes.specs.Deleting.{Left, left, deleteVerdict, deleted}
+use Rattle.reads.specs.Reads.{rowOfTag}
+use Rattle.wrote.specs.Wrote.{written-as-read}
 use Rattle.steps.specs.Calls.{Runs}
 use Rattle.theorem.specs.Trace.{State, state, stateHeld, stateLeft, Handed, Call-ends, snapshot-ends, read-ends, write-ends, delete-ends, count-ends, Trace, over, then, leaves, leftBy}
 use Rattle.theorem.specs.Theorem.{one-call}
@@ -28,6 +33,15 @@ call-leaves {z} {places} k (write-ends {tag = tag} {r = r} {bs = bs} e) =
 call-leaves {z} {places} k (delete-ends {tag = tag} e) =
     rw (e .sound k .left) (unless-made (λ (l : Left). stateLeft (z .size) l places) (deleteVerdict z tag) (left (z .tree) (z .node) (z .row)) (deleted z tag))
 call-leaves k (count-ends e) = refl
+
+-- a write of the bytes that the version reads there
+pub leaves-untouched : (s : State) (tag r : ℕ) (bs : List ℕ) → bs ≡ rowOfTag (s .records) (s .places) tag r → leaves s (write tag r bs) ≡ s
+unfolding leaves rowOfTag
+leaves-untouched s tag r bs e = rw (written-as-read (s .records) (s .places) tag r bs e) (go (writeVerdict (s .records) (s .places) tag r bs))
+  where
+    go : (v : Option Refusal) → unless v (λ x. s) s ≡ s
+    go none = refl
+    go (some x) = refl
 
 -- any list of calls on a store that runs
 pub list-leaves : {s s′ : State} {m : Model} {cs : List Call} {hs : List Handed} → Runs (s .records) (s .places) m → Trace s cs hs s′ → s′ ≡ leftBy s cs

@@ -19,6 +19,7 @@ use Rattle.view.specs.View.{view, Store, started}
 use Rattle.view.specs.Viewed.{view-snapshots}
 use Rattle.theorem.specs.Trace.{State, Handed, Call-ends, Trace, over, then, handedOf, Equals}
 use Rattle.theorem.specs.Theorem.{theorem-sound}
+use Rattle.theorem.specs.Leaving.{call-leaves, leaves-untouched}
 use Rattle.theorem.specs.Consequences as model
 use Rattle.theorem.specs.Consequences.{AllSpare}
 
@@ -101,29 +102,37 @@ module _ {s s′ : State} {cs : List Call} {hs : List Handed} (st : Store (s .re
 
   -- After it, one more call
   module _ {h : Handed} {s″ : State} where
-    -- a write that passes its earlier tests gets 24 exactly if its row is shared and every place is in use, and is else accepted
+    -- a write that passes its earlier tests gets 24 exactly if its row is shared, every place is in use and its bytes are others, and is else accepted
     module _ {tag r : ℕ} {bs : List ℕ} (k : Call-ends (s′ .records) (s′ .places) (write tag r bs) h s″)
         (long : length bs ≡ s′ .records .size .width) (low : r < s′ .records .size .rows) (a : lives (s′ .records) tag ≡ true) where
       its-alive : alive (its s′ stays-store stays-whole .snapshots) tag ≡ true
       its-alive = sym (equals s′ stays-store stays-whole .living tag) ∙ a
 
-      pub write-full : (h .number ≡ 24) ↔ (Shares (s′ .records) tag r × Full (s′ .records))
+      its-row : rowOfTag (s′ .records) (s′ .places) tag r ≡ its s′ stays-store stays-whole .rows .content (tag, r)
+      its-row = equals s′ stays-store stays-whole .rows tag r its-alive low
+
+      pub write-full : (h .number ≡ 24) ↔ (Shares (s′ .records) tag r × Full (s′ .records) × (bs ≢ rowOfTag (s′ .records) (s′ .places) tag r))
       write-full =
           let m = its s′ stays-store stays-whole in
           let f = model.write-full (s′ .records .size) m tag r bs long low its-alive in
           let x = shares-iff s′ stays-store stays-whole tag r a low in
           let u = equals s′ stays-store stays-whole .inUse in
-          rw (numbered s′ stays-store stays-whole k) (
-            λ e. (x .1 (f .0 e .0), rw u (f .0 e .1)),
-            λ y. f .1 (x .0 (y .0), rw u at (y .1)),
+          rw (numbered s′ stays-store stays-whole k, its-row) (
+            λ e. (x .1 (f .0 e .0), rw u (f .0 e .1), f .0 e .2),
+            λ y. f .1 (x .0 (y .0), rw u at (y .1), y .2),
           )
 
-      pub write-accepted : (Shares (s′ .records) tag r × Full (s′ .records) → ⊥) → h .number ≡ 0
+      pub write-accepted : (Shares (s′ .records) tag r × Full (s′ .records) × (bs ≢ rowOfTag (s′ .records) (s′ .places) tag r) → ⊥) → h .number ≡ 0
       write-accepted n =
           let m = its s′ stays-store stays-whole in
           let x = shares-iff s′ stays-store stays-whole tag r a low in
           let u = equals s′ stays-store stays-whole .inUse in
-          numbered s′ stays-store stays-whole k ∙ model.write-accepted (s′ .records .size) m tag r bs long low its-alive (λ y. n (x .1 (y .0), rw u (y .1)))
+          numbered s′ stays-store stays-whole k
+          ∙ model.write-accepted (s′ .records .size) m tag r bs long low its-alive (λ y. n (x .1 (y .0), rw u (y .1), λ e. y .2 (e ∙ its-row)))
+
+      -- a write of the bytes that the version reads there is accepted and leaves every record and every byte as it was
+      pub write-untouched : bs ≡ rowOfTag (s′ .records) (s′ .places) tag r → (h .number ≡ 0) × (s″ ≡ s′)
+      write-untouched e = (write-accepted (λ y. y .2 e), call-leaves (stays-store .sound) k ∙ leaves-untouched s′ tag r bs e)
 
     -- a snapshot is accepted exactly if its tag is neither 0 nor alive, its source lives and fewer than 64 are alive
     pub snapshot-accepted : {source new : ℕ} → Call-ends (s′ .records) (s′ .places) (snapshot source new) h s″

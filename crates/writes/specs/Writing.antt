@@ -12,28 +12,27 @@ use Rattle.answers.specs.Answers.{Refusal, bad-length, bad-row, unknown-tag, un
 use Rattle.answers.specs.Tests.{Tests, refusal}
 use Rattle.soundness.specs.Judged.{Judged, Leaves}
 use Rattle.owning.specs.Owning.{Held, held}
-use Rattle.writes.specs.Unsharing.{fullTest}
-use Rattle.writes.specs.Storing.{writtenAt}
+use Rattle.writes.specs.Touching.{savedAt, roomTest}
 
 -- The tests
 
-unfoldable pub writeTests : Records → ℕ → ℕ → ℕ → ℕ → Tests
-writeTests z places bytes tag r =
-    (not (eqb places (z .size .places * z .size .width)), bad-length)
-    ∷ (not (eqb bytes (z .size .width)), bad-length)
+unfoldable pub writeTests : Records → List ℕ → ℕ → ℕ → List ℕ → Tests
+writeTests z places tag r bs =
+    (not (eqb (length places) (z .size .places * z .size .width)), bad-length)
+    ∷ (not (eqb (length bs) (z .size .width)), bad-length)
     ∷ (leb (z .size .rows) r, bad-row)
     ∷ (not (lives z tag), unknown-tag)
-    ∷ fullTest z (version (z .tree) tag) r
+    ∷ roomTest z places (version (z .tree) tag) r bs
 
 unfoldable pub writeVerdict : Records → List ℕ → ℕ → ℕ → List ℕ → Option Refusal
-writeVerdict z places tag r bs = refusal (writeTests z (length places) (length bs) tag r)
+writeVerdict z places tag r bs = refusal (writeTests z places tag r bs)
 
 -- The effect
 
 module _ (z : Records) (places : List ℕ) (r : ℕ) (bs : List ℕ) where
   abbrev pub writtenBy : Option ℕ → Held
   writtenBy none = held (z .tree) (z .node) (z .row) places
-  writtenBy (some v) = writtenAt z places r bs v
+  writtenBy (some v) = savedAt z places r bs v
 
 -- what the records and places are after a write of row r of the version with a tag
 unfoldable pub written : Records → List ℕ → ℕ → ℕ → List ℕ → Held

@@ -14,13 +14,12 @@ use Rattle.trees.specs.Trees.{version}
 use Rattle.answers.specs.Answers.{bad-length, bad-row, unknown-tag}
 use Rattle.answers.specs.Tests.{Tests, refusal}
 use Rattle.answers.specs.Laws.{refusal-here, refusal-next}
-use Rattle.writes.specs.Unsharing.{fullTest}
-use Rattle.writes.specs.Storing.{writtenAt}
+use Rattle.writes.specs.Touching.{savedAt, roomTest}
 use Rattle.writes.specs.Writing.{writeTests, writeVerdict, written}
 
 module _ (z : Records) (places : List ℕ) (tag r : ℕ) (bs : List ℕ) where
   tagTest : Tests
-  tagTest = (not (lives z tag), unknown-tag) ∷ fullTest z (version (z .tree) tag) r
+  tagTest = (not (lives z tag), unknown-tag) ∷ roomTest z places (version (z .tree) tag) r bs
 
   rowTest : Tests
   rowTest = (leb (z .size .rows) r, bad-row) ∷ tagTest
@@ -60,10 +59,10 @@ module _ (z : Records) (places : List ℕ) (tag r : ℕ) (bs : List ℕ) where
         tag-refused v = row-passed ∙ refusal-here unknown-tag _ (rw v)
 
         -- the last test is left
-        pub tag-passed : (v : ℕ) → version (z .tree) tag ≡ some v → writeVerdict z places tag r bs ≡ refusal (fullTest z (some v) r)
+        pub tag-passed : (v : ℕ) → version (z .tree) tag ≡ some v → writeVerdict z places tag r bs ≡ refusal (roomTest z places (some v) r bs)
         unfolding tagTest lives
-        tag-passed v h = row-passed ∙ refusal-next unknown-tag _ (rw h) ∙ ap (λ (o : Option ℕ). refusal (fullTest z o r)) h
+        tag-passed v h = row-passed ∙ refusal-next unknown-tag _ (rw h) ∙ ap (λ (o : Option ℕ). refusal (roomTest z places o r bs)) h
 
-  pub written-version : (v : ℕ) → version (z .tree) tag ≡ some v → written z places tag r bs ≡ writtenAt z places r bs v
+  pub written-version : (v : ℕ) → version (z .tree) tag ≡ some v → written z places tag r bs ≡ savedAt z places r bs v
   unfolding written
   written-version v h = rw h

@@ -39,7 +39,7 @@ fn write_row(
     let Found::At(v) = found else {
         return Written { answer: 21, tree };
     };
-    storing::store_row(size, tree, node, row, places, v, r, bytes)
+    touching::save_row(size, tree, node, row, places, v, r, bytes)
 }
 
 // Refusals: 20, 2, 3, 21, 24. A refusal changes nothing.

@@ -230,11 +230,38 @@ fn timed_read<S: Store>(stock: &Stock) -> Repetition {
 
 fn timed_write<S: Store>(lent: &Lent, shared: bool) -> Repetition {
     let targets = lent.targets(shared);
-    let bytes = vec![7; lent.shape.measures.width];
+    let mut bytes = vec![7; lent.shape.measures.width];
     let mut places = lent.places.clone();
+    let mut written: u64 = 0;
     timed_changing(&lent.records, move |records, number| {
         let (tag, row) = targets[number % targets.len()];
+        // Bytes that no row has yet.
+        written += 1;
+        bytes[..8].copy_from_slice(&written.to_le_bytes());
         S::write(records, &mut places, tag, row, &bytes)
+    })
+}
+
+/// Writes what the version reads there already, a shared row, which changes nothing.
+fn timed_write_equal<S: Store>(lent: &Lent) -> Repetition {
+    let records = lent.parsed();
+    let bytes = |&(tag, row): &(u16, usize)| {
+        let place = records.place_of(tag, row).expect("a place for every row");
+        lent.places[lent.shape.measures.stretch(place)].to_vec()
+    };
+    let targets = lent.targets(true);
+    let rows: Vec<Vec<u8>> = targets.iter().map(bytes).collect();
+    let mut lent = lent.clone();
+    timed(move |number| {
+        let ((tag, row), bytes) = (targets[number % targets.len()], &rows[number % rows.len()]);
+        let answer = S::write(
+            black_box(&mut lent.records),
+            &mut lent.places,
+            tag,
+            row,
+            bytes,
+        );
+        assert_eq!(answer, 0);
     })
 }
 
@@ -251,31 +278,33 @@ fn timed_count<S: Store>(stock: &Stock) -> Repetition {
     timed(move |_| assert_eq!(S::count(black_box(&records)).0, 0))
 }
 
-const CALLS: [&str; 7] = [
+const CALLS: [&str; 8] = [
     "open",
     "snapshot",
     "read",
     "write unshared",
     "write shared",
+    "write equal",
     "delete",
     "count",
 ];
 
 /// The calls in the order of their names.
-fn timed_calls<S: Store>(stock: &Stock) -> [Repetition; 7] {
+fn timed_calls<S: Store>(stock: &Stock) -> [Repetition; 8] {
     [
         timed_open::<S>(stock),
         timed_snapshot::<S>(stock),
         timed_read::<S>(stock),
         timed_write::<S>(&stock.full, false),
         timed_write::<S>(&stock.roomy, true),
+        timed_write_equal::<S>(&stock.full),
         timed_delete::<S>(stock),
         timed_count::<S>(stock),
     ]
 }
 
 /// The stores that are timed, by name.
-fn stores(stock: &Stock) -> Vec<(&'static str, [Repetition; 7])> {
+fn stores(stock: &Stock) -> Vec<(&'static str, [Repetition; 8])> {
     vec![
         #[cfg(feature = "linked")]
         (

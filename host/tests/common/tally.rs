@@ -8,6 +8,7 @@ pub struct Tally {
     calls: BTreeMap<&'static str, usize>,
     answers: BTreeMap<u8, usize>,
     deletes: BTreeMap<&'static str, usize>,
+    equal_writes: BTreeMap<&'static str, usize>,
     /// Rows, sharing pairs and counts compared, and records judged.
     pub rows: usize,
     pub pairs: usize,
@@ -40,10 +41,16 @@ impl Tally {
         *self.deletes.entry(shape).or_default() += 1;
     }
 
+    /// An accepted write of the bytes that the version read there.
+    pub fn equal_write(&mut self, kind: &'static str) {
+        *self.equal_writes.entry(kind).or_default() += 1;
+    }
+
     pub fn add(&mut self, other: &Tally) {
         add_each(&mut self.calls, &other.calls);
         add_each(&mut self.answers, &other.answers);
         add_each(&mut self.deletes, &other.deletes);
+        add_each(&mut self.equal_writes, &other.equal_writes);
         self.seeds += other.seeds;
         self.rows += other.rows;
         self.pairs += other.pairs;
@@ -62,6 +69,9 @@ impl Tally {
         println!("  answers: {}", listed(&self.answers));
         if !self.deletes.is_empty() {
             println!("  deletes: {}", listed(&self.deletes));
+        }
+        if !self.equal_writes.is_empty() {
+            println!("  equal bytes written: {}", listed(&self.equal_writes));
         }
         println!(
             "  compared: {} rows, {} pairs for sharing, {} counts, {} times lent bytes untouched",
@@ -88,6 +98,13 @@ impl Tally {
         for answer in answers {
             let seen = self.answers.contains_key(answer);
             assert!(seen, "{title}: answer {answer} was never seen");
+        }
+    }
+
+    pub fn require_equal_writes(&self, title: &str, kinds: &[&str]) {
+        for kind in kinds {
+            let seen = self.equal_writes.contains_key(kind);
+            assert!(seen, "{title}: equal bytes never written to {kind}");
         }
     }
 

@@ -155,17 +155,22 @@ impl<S: Store> Trial<S> {
         self.made += 1;
         let before = (self.records.clone(), self.places.clone());
         self.note_shape(call);
+        let equal = self.equal_write(call);
         let own_place = self.unshared_place(call);
         let wanted = call.on_copies(&mut self.copies);
         let len = self.measures.records_len();
         let got = call.on_store::<S>(&mut self.records[..len], &mut self.places);
         self.check(&got, &wanted, call, "the answer");
         self.tally.call(call.name(), got.answer);
-        if got.answer != 0 || !call.changes_records() {
+        if got.answer != 0 || !call.changes_records() || equal.is_some() {
             self.check(&self.records, &before.0, call, "the records lent");
         }
+        if let Some(kind) = equal {
+            self.check(&got.answer, &0, call, "the answer to equal bytes");
+            self.tally.equal_write(kind);
+        }
         match call {
-            Call::Write { tag, row, .. } if got.answer == 0 => {
+            Call::Write { tag, row, .. } if got.answer == 0 && equal.is_none() => {
                 self.check_written(call, (*tag, *row), &before, own_place)
             }
             _ => self.check(&self.places, &before.1, call, "the places lent"),
@@ -223,6 +228,34 @@ impl<S: Store> Trial<S> {
             (_, true) => "node with several children under a ghost",
         };
         self.tally.delete(shape);
+    }
+
+    /// Of a write that brings the bytes that the version reads there, what kind of row it is.
+    fn equal_write(&self, call: &Call) -> Option<&'static str> {
+        let Call::Write {
+            tag,
+            row,
+            places_len,
+            bytes,
+        } = call
+        else {
+            return None;
+        };
+        let known = self.copies.tags().contains(tag) && *row < self.measures.rows;
+        let fits = *places_len == self.measures.places_len();
+        if !known || !fits || self.copies.row(*tag, *row) != bytes {
+            return None;
+        }
+        let records = self.parsed();
+        let node = records.node_of(*tag).expect("a living version's node");
+        let full = self.copies.count().0 == self.measures.places;
+        Some(match (self.copies.shared(*tag, *row), *tag) {
+            (false, _) => "a row of its own",
+            (true, _) if full => "a shared row of a full store",
+            (true, 0) => "a shared row of the origin",
+            (true, _) if records.children(node) > 0 => "a shared row of a snapshot with children",
+            (true, _) => "a shared row of a snapshot",
+        })
     }
 
     /// The place in which a write must stay: the one of a row that no other version shares.

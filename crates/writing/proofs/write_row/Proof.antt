@@ -55,8 +55,8 @@ returns-2 c =
     let a = s .args in
     leaves-refused unknown-tag (tag-refused _ _ _ _ _ (s .pre .1) (s .pre .2) (low q) (found-missing (version (a .t2) (a .tag)) (sym (c .enum-told .given .1) ∙ v .version .ensures)))
 
-store-row-requires : tie.Need-store-row-requires
-store-row-requires c κs =
+save-row-requires : tie.Need-save-row-requires
+save-row-requires c κs =
     let k = c .before .before .before in
     let p = begun (late k .before) .pre in
     record { sound = p .0; size = p .1; alive = version-alive _ _ _ (known k) .0; low = low (late k); width = p .2 }
@@ -75,7 +75,7 @@ returns-3 c =
     let y = c .before .before .before .before .before .before in
     let k = y .before .before .before .before in
     let p = begun (late k .before) .pre in
-    leaves-same (tag-passed _ _ _ _ _ (p .1) (p .2) (low (late k)) _ (known k)) (written-version _ _ _ _ _ _ (known k)) (y .store-row .ensures)
+    leaves-same (tag-passed _ _ _ _ _ (p .1) (p .2) (low (late k)) _ (known k)) (written-version _ _ _ _ _ _ (known k)) (y .save-row .ensures)
 
 pub write-row-spec : {M : Type 1} → statement M
 write-row-spec =
@@ -87,7 +87,7 @@ write-row-spec =
     enum-known-found
     enum-told
     returns-2
-    store-row-requires
+    save-row-requires
     same-length
     same-length-2
     same-length-3

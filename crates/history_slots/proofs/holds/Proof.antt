@@ -1,15 +1,14 @@
--- `history_comparing::same` is safe and ends. Assumes nothing.
+-- `history_slots::holds` is safe and ends. Assumes nothing.
 use borrow.Author.Needs.{needs}
 use Prim.Native.Nat.{_≤_, _-_}
-use lib.ListN.{length}
-use Rattle.history_comparing.proofs.same.Statement.{statement}
-use Rattle.history_comparing.proofs.same.Tie as tie
+use Rattle.history_slots.proofs.holds.Statement.{statement}
+use Rattle.history_slots.proofs.holds.Tie as tie
 
 abbrev Inv-loop : tie.InvT-loop
-Inv-loop copies slot r bytes i₀ i = i ≤ length bytes
+Inv-loop copies slot r bytes n i₀ i = i ≤ n
 
 abbrev μ-loop : tie.MeasureT-loop
-μ-loop copies slot r bytes i₀ i = length bytes - i
+μ-loop copies slot r bytes n i₀ i = n - i
 
 loop-holds : tie.Need-loop-holds Inv-loop μ-loop
 loop-holds c = search needs
@@ -38,8 +37,8 @@ loop-again c = search needs
 returns-2 : tie.Need-returns-2 Inv-loop μ-loop
 returns-2 c = search needs
 
-pub same-spec : {M : Type 1} → statement M
-same-spec =
+pub holds-spec : {M : Type 1} → statement M
+holds-spec =
     tie.close
     (tie.spec
     Inv-loop

@@ -1,0 +1,45 @@
+-- A write from C of the bytes that the version reads there is accepted, and leaves every byte of what was lent. Assumes nothing.
+use mathlib.Core.Path.{_≡_, refl, _∙_, ap}
+use mathlib.Core.Bool.{true}
+use mathlib.Core.List.{List}
+use mathlib.Core.Option.{Option, none, some}
+use Prim.Native.Nat.{ℕ, _<_}
+use lib.ListN.{length}
+use Rattle.basics.specs.Decide.{at}
+use Rattle.records.specs.Records.{lives}
+use Rattle.answers.specs.Answers.{Refusal}
+use Rattle.answers.specs.Tests.{unless}
+use Rattle.soundness.specs.Judged.{Leaves, judged-sound}
+use Rattle.reads.specs.Reads.{rowOfTag}
+use Rattle.owning.specs.Owning.{held}
+use Rattle.writes.specs.Writing.{writeVerdict, written}
+use Rattle.wrote.specs.Wrote.{written-as-read}
+use Rattle.view.specs.View.{Store}
+use Rattle.theorem.specs.Trace.{Handed, over}
+use Rattle.theorem.specs.Trace as trace
+use Rattle.theorem.specs.Stores.{write-untouched}
+use Rattle.layout.specs.Layout.{loaded, Fits}
+use Rattle.layout.specs.Back.{stored-loaded}
+use Rattle.hosting.specs.Calls.{write}
+use Rattle.hosting.specs.Called.{Host-ends, write-ends}
+use Rattle.hosting.specs.Guarantee.{loaded-whole}
+
+either-way : {A : Type 0} (v : Option Refusal) (x : A) → unless v (λ r. x) x ≡ x
+either-way none x = refl
+either-way (some r) x = refl
+
+-- bytes of a sound store, each below 256, whatever calls have left them
+module _ (b places : List ℕ) (f : Fits b) (low : (i : ℕ) → at b i < 256) (st : Store (loaded b) places) where
+  pub host-untouched : {tag r : ℕ} {bs b′ places′ : List ℕ} {h : Handed} → Host-ends b places (write tag r bs) h b′ places′
+      → length bs ≡ loaded b .size .width → r < loaded b .size .rows → lives (loaded b) tag ≡ true → bs ≡ rowOfTag (loaded b) places tag r
+      → (h .number ≡ 0) × (b′ ≡ b) × (places′ ≡ places)
+  unfolding rowOfTag
+  host-untouched (write-ends {tag = tag} {r = r} {number = number} {bs = bs} {b′ = b′} {places′ = places′} e) long below a same =
+      let z = loaded b in
+      let l = e .sound f (st .sound) in
+      let v = writeVerdict z places tag r bs in
+      let got : Leaves v (held (z .tree) (z .node) (z .row) places) (written z places tag r bs) number (unless v (λ x. held (z .tree) (z .node) (z .row) places) (written z places tag r bs)) =
+      record { numbered = l .numbered; left = refl } in
+      let (n, s) = write-untouched st (loaded-whole b f) over (trace.write-ends (judged-sound (st .sound) got)) long below a same in
+      let left : _≡_ {A = List ℕ × List ℕ} (b′, places′) (b, places) = l .left ∙ rw (written-as-read z places tag r bs same, stored-loaded b f low) (either-way v (b, places)) in
+      (n, ap (λ (p : List ℕ × List ℕ). p .0) left, ap (λ (p : List ℕ × List ℕ). p .1) left)
