@@ -25,33 +25,23 @@ fn draw(dice: &mut usize, n: usize) -> usize {
     next % n
 }
 
-// Drawn bytes.
-fn fill(bytes: &mut [u8], dice: &mut usize) {
-    let mut i: usize = 0;
-    while i < bytes.len() {
-        let x = draw(dice, 256);
-        bytes[i] = (x % 256) as u8;
-        i += 1;
+// A drawn byte, or the one that stands in the full copy.
+fn some_byte(copies: &[usize], at: usize, equal: bool, dice: &mut usize) -> usize {
+    if equal {
+        return get(copies, at);
     }
+    draw(dice, 256)
 }
 
-// The bytes that a version's row has.
-fn copy_row(copies: &[usize], tag: u16, r: usize, bytes: &mut [u8]) {
+// Drawn bytes; one time in five those that the version's row has.
+fn some_bytes(copies: &[usize], tag: u16, r: usize, bytes: &mut [u8], dice: &mut usize) {
+    let equal = draw(dice, 5) == 0;
     let slot = history_slots::slot_of(copies, tag);
     let mut i: usize = 0;
     while i < bytes.len() {
-        let x = get(copies, history_slots::byte_at(slot, r, i));
+        let x = some_byte(copies, history_slots::byte_at(slot, r, i), equal, dice);
         bytes[i] = (x % 256) as u8;
         i += 1;
-    }
-}
-
-// Drawn bytes; one time in five those that are there.
-fn some_bytes(copies: &[usize], tag: u16, r: usize, bytes: &mut [u8], dice: &mut usize) {
-    if draw(dice, 5) == 0 {
-        copy_row(copies, tag, r, bytes);
-    } else {
-        fill(bytes, dice);
     }
 }
 

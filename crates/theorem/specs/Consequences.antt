@@ -14,7 +14,7 @@ use Rattle.basics.specs.Decide.{and-yes, both}
 use Rattle.basics.specs.Equal.{equal, equal-refl, equal-false, equal-not}
 use Rattle.measures.specs.declared.Size.{Size}
 use Rattle.model.specs.Call.{Call, snapshot, read, write, delete, count}
-use Rattle.answers.specs.Answers.{Refusal, places-full, number, Answer, done, row, refused, numberOf}
+use Rattle.answers.specs.Answers.{Refusal, bad-length, bad-row, unknown-tag, places-full, number, Answer, done, row, refused, numberOf}
 use Rattle.copies.specs.Copies.{Cell, alive, snapshotsAlive, shared, placesUsed, adopt, renewed}
 use Rattle.model.specs.Model.{Model, tests, accepted, effect, verdict, answer, after, final}
 use Rattle.answers.specs.Tests.{Tests, orElse, refusal, unless}
@@ -38,6 +38,16 @@ full-not : (b : Bool) → (b ≡ true → ⊥) → numberOf (unless (refusal ((b
 unfolding refusal
 full-not true h = absurd (h refl)
 full-not false h = refl
+
+-- a last test that does not hold refuses nothing
+never-full : (a b c d : Bool)
+    → numberOf (unless (refusal ((a, bad-length) ∷ (b, bad-row) ∷ (c, unknown-tag) ∷ (d && false, places-full) ∷ [])) refused done) ≢ 24
+unfolding refusal
+never-full true b c d = omega arith
+never-full false true c d = omega arith
+never-full false false true d = omega arith
+never-full false false false true = omega arith
+never-full false false false false = omega arith
 
 module _ (z : Size) (m : Model) where
   -- a write wants a place: its row is shared, every place is in use, and its bytes are not those that the version reads there
@@ -83,6 +93,12 @@ module _ (z : Size) (m : Model) where
       go : (v : Option Refusal) → unless v (λ x. m) m ≡ m
       go none = refl
       go (some x) = refl
+
+  -- and is never refused for want of a place
+  pub untouched-never-full : (t r : ℕ) → numberOf (answer z m (write t r (m .rows .content (t, r)))) ≢ 24
+  unfolding answer verdict tests accepted
+  untouched-never-full t r =
+      rw (equal-refl (m .rows .content (t, r))) (never-full _ _ _ (shared (m .snapshots) (m .rows .mark) t r && leb (z .places) (placesUsed (z .rows) (m .snapshots) (m .rows .mark))))
 
   -- what a snapshot that no test refuses has passed, and back
   snapshot-none : (s t : ℕ) → t ≢ 0 → alive (m .snapshots) s ≡ true → alive (m .snapshots) t ≡ false → snapshotsAlive (m .snapshots) < 64 → verdict z m (snapshot s t) ≡ none

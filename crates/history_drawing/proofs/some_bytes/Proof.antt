@@ -1,17 +1,20 @@
--- `history_drawing::copy_row` is safe and ends. Assumes nothing.
+-- `history_drawing::some_bytes` is safe and ends. Assumes nothing.
 use borrow.Author.Needs.{needs}
 use Prim.Native.Nat.{_≤_, _-_}
 use mathlib.Core.Path.{_≡_}
 use native.Mathlib.Omega.{arith}
 use lib.ListN.{length, length-set}
-use Rattle.history_drawing.proofs.copy_row.Statement.{statement}
-use Rattle.history_drawing.proofs.copy_row.Tie as tie
+use Rattle.history_drawing.proofs.some_bytes.Statement.{statement}
+use Rattle.history_drawing.proofs.some_bytes.Tie as tie
 
 abbrev Inv-loop : tie.InvT-loop
-Inv-loop copies tag r bytes₀ slot i₀ bytes i = (i ≤ length bytes) × (length bytes ≡ length bytes₀)
+Inv-loop copies tag r bytes₀ dice₀ equal slot i₀ bytes dice i = (i ≤ length bytes) × (length bytes ≡ length bytes₀)
 
 abbrev μ-loop : tie.MeasureT-loop
-μ-loop copies tag r bytes₀ slot i₀ bytes i = length bytes₀ - i
+μ-loop copies tag r bytes₀ dice₀ equal slot i₀ bytes dice i = length bytes₀ - i
+
+draw-requires : tie.Need-draw-requires Inv-loop μ-loop
+draw-requires c κs = search needs
 
 slot-of-requires : tie.Need-slot-of-requires Inv-loop μ-loop
 slot-of-requires c κs = search needs
@@ -22,8 +25,8 @@ loop-holds c = search needs
 byte-at-requires : tie.Need-byte-at-requires Inv-loop μ-loop
 byte-at-requires c κs = search needs
 
-get-requires : tie.Need-get-requires Inv-loop μ-loop
-get-requires c κs = search needs
+some-byte-requires : tie.Need-some-byte-requires Inv-loop μ-loop
+some-byte-requires c κs = search needs
 
 cast-bytes : tie.Need-cast-bytes Inv-loop μ-loop
 cast-bytes c = search needs
@@ -46,16 +49,17 @@ same-length c = search needs
 returns : tie.Need-returns Inv-loop μ-loop
 returns c = search needs
 
-pub copy-row-spec : {M : Type 1} → statement M
-copy-row-spec =
+pub some-bytes-spec : {M : Type 1} → statement M
+some-bytes-spec =
     tie.close
     (tie.spec
     Inv-loop
     μ-loop
+    draw-requires
     slot-of-requires
     loop-holds
     byte-at-requires
-    get-requires
+    some-byte-requires
     cast-bytes
     slice-write-bytes
     add-i
