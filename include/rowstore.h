@@ -14,12 +14,14 @@
  * of the store.
  *
  * Pointers. No pointer may be NULL, even with length 0. The buffers of one call
- * must not overlap. Buffers of bytes need no alignment; the two numbers of
- * rowstore_count are aligned as C asks of a size_t.
+ * must not overlap. Buffers of bytes need no alignment; numbers that a call
+ * sets and the row numbers of a border are aligned as C asks of their types.
  *
  * Answers. Each call returns ROWSTORE_OK or the number of the first test that
  * refused it, in the order given with the call. A refusal changes no byte of
- * any buffer; only rowstore_count still sets its two numbers, to 0.
+ * any buffer; the numbers that rowstore_count and rowstore_border set are 0
+ * then. Only a border that is refused at one of its rows has changed
+ * something: the rows before it are written, and their number is set.
  *
  * Every call but rowstore_open judges the records first: bytes that are not
  * those of a store are refused with ROWSTORE_UNSOUND, and so are records of the
@@ -35,7 +37,7 @@
 extern "C" {
 #endif
 
-/* Answers. 1 to 5 come from the arguments, 20 to 24 from the store. */
+/* Answers. 1 to 5 and 25 come from the arguments, 20 to 24 from the store. */
 enum {
   ROWSTORE_OK = 0,              /* accepted */
   ROWSTORE_BAD_SIZE = 1,        /* rows, width or count out of its limits */
@@ -47,7 +49,8 @@ enum {
   ROWSTORE_UNKNOWN_TAG = 21,    /* no living version has the tag */
   ROWSTORE_TAG_ALIVE = 22,      /* a living snapshot has the new tag */
   ROWSTORE_SNAPSHOTS_FULL = 23, /* the most snapshots are alive */
-  ROWSTORE_PLACES_FULL = 24     /* a shared row to change, and no place free */
+  ROWSTORE_PLACES_FULL = 24,    /* a shared row to change, and no place free */
+  ROWSTORE_TOO_MANY_ROWS = 25   /* more rows than a border may have */
 };
 
 /* Limits. Each measure is at least 1, and count at least rows. */
@@ -55,6 +58,7 @@ enum {
 #define ROWSTORE_MAX_WIDTH 1024
 #define ROWSTORE_MAX_PLACES 4096
 #define ROWSTORE_MAX_SNAPSHOTS 64
+#define ROWSTORE_MAX_BORDER 64
 
 /* The tag of the origin. */
 #define ROWSTORE_ORIGIN 0
@@ -145,6 +149,36 @@ uint8_t rowstore_read(const uint8_t *records, size_t records_len,
 uint8_t rowstore_write(uint8_t *records, size_t records_len, uint8_t *places,
                        size_t places_len, uint16_t tag, size_t row,
                        const uint8_t *bytes, size_t bytes_len);
+
+/* Writes rows of a version in their order, as rowstore_write would one by one,
+ * up to the first that is refused. The rows before it stay written; it and
+ * those after it change nothing. A row may be named more than once.
+ *
+ * records  changed
+ * places   changed
+ * tag      the version, ROWSTORE_ORIGIN or a snapshot
+ * rows     the rows, only read; 0 to ROWSTORE_MAX_BORDER of them
+ * bytes    the new rows one after the other, only read; rows_len times as
+ *          many bytes as a row has
+ * done     set to how many rows were written: rows_len if accepted, 0 with
+ *          one of the first four refusals
+ *
+ * The number is the caller's, as every buffer, and is apart.
+ *
+ * Refusals, in order:
+ *   ROWSTORE_UNSOUND        the records are not sound
+ *   ROWSTORE_TOO_MANY_ROWS  rows_len is above ROWSTORE_MAX_BORDER
+ *   ROWSTORE_BAD_LENGTH     places_len or bytes_len is wrong
+ *   ROWSTORE_UNKNOWN_TAG    no living version has the tag
+ * and then, of row after row:
+ *   ROWSTORE_BAD_ROW        the store has no such row
+ *   ROWSTORE_PLACES_FULL    the row is shared, every place is in use and the
+ *                           bytes are others
+ */
+uint8_t rowstore_border(uint8_t *records, size_t records_len, uint8_t *places,
+                        size_t places_len, uint16_t tag, const uint16_t *rows,
+                        size_t rows_len, const uint8_t *bytes, size_t bytes_len,
+                        size_t *done);
 
 /* Deletes a snapshot. Places that only it read are free again; their bytes
  * stay as they are. Snapshots taken of it live on.

@@ -1,20 +1,19 @@
--- One call, then any list of calls: the answers are the model's, and agreement is kept; and where it begins. Assumes nothing.
-use mathlib.Core.Path.{_≡_, refl, _∙_, ap₂}
-use mathlib.Core.List.{List, _∷_}
+-- One thing done: the answer is the model's, and agreement is kept; and where it begins. Assumes nothing.
+use mathlib.Core.Path.{_≡_, refl, _∙_}
 use mathlib.Core.Option.{Option, none, some}
 use Prim.Native.Nat.{ℕ, _<_}
 use lib.ListN.{replicate}
 use Rattle.basics.specs.Equal.{equal, equal-refl, equal-true}
 use Rattle.measures.specs.declared.Size.{Size}
-use Rattle.model.specs.Call.{Call, snapshot, read, write, delete, count}
+use Rattle.model.specs.Call.{Single, snapshot, read, write, delete, count}
 use Rattle.answers.specs.Answers.{Refusal, Answer}
 use Rattle.copies.specs.Copies.{Cell, Live, placesUsed}
 use Rattle.maps.specs.Map.{firstMap, Alike}
 use Rattle.maps.specs.Keeping.{used-same, first-mirrors, start-mirrors, alike-keeps, snapshot-keeps, delete-keeps}
 use Rattle.maps.specs.Writing.{save-keeps}
-use Rattle.model.specs.Model.{Model, effect, opened, verdict, answer, after, answers, final}
+use Rattle.model.specs.Model.{Model, effect, opened, verdict, answer, after}
 use Rattle.answers.specs.Tests.{unless}
-use Rattle.agreement.specs.Agree.{RowMap, Effect, Step, Runs, done, next, Agree}
+use Rattle.agreement.specs.Agree.{RowMap, Effect, Step, Agree}
 use Rattle.agreement.specs.Verdicts.{snapshot-passed, write-passed, delete-passed, verdict-same, answer-same}
 
 -- the agreement sees of a map only the living rows
@@ -22,7 +21,7 @@ pub alike-agree : (z : Size) {m m′ : RowMap} {s : Model} → Agree z m s → A
 alike-agree z a k = record { rows = alike-keeps (z .rows) (a .rows) k }
 
 module _ (z : Size) {m : RowMap} {s : Model} (a : Agree z m s) where
-  effect-agree : (c : Call) {m′ : RowMap} → verdict z s c ≡ none → Effect z m c m′ → Agree z m′ (effect s c)
+  effect-agree : (c : Single) {m′ : RowMap} → verdict z s c ≡ none → Effect z m c m′ → Agree z m′ (effect s c)
   unfolding verdict Effect effect
   effect-agree (snapshot u t) e k = record { rows = alike-keeps (z .rows) (snapshot-keeps (z .rows) (a .rows) u t (snapshot-passed z (s .snapshots) (s .rows .mark) (s .rows .content) u t e)) k }
   effect-agree (read t r) e k = alike-agree z a k
@@ -31,26 +30,17 @@ module _ (z : Size) {m : RowMap} {s : Model} (a : Agree z m s) where
   effect-agree count e k = alike-agree z a k
 
   -- accepted or refused
-  either-agree : (c : Call) {m′ : RowMap} (v : Option Refusal) → verdict z s c ≡ v → unless v (λ r. Alike (z .rows) m′ m) (Effect z m c m′) → Agree z m′ (unless v (λ r. s) (effect s c))
+  either-agree : (c : Single) {m′ : RowMap} (v : Option Refusal) → verdict z s c ≡ v → unless v (λ r. Alike (z .rows) m′ m) (Effect z m c m′) → Agree z m′ (unless v (λ r. s) (effect s c))
   either-agree c none e k = effect-agree c e k
   either-agree c (some r) e k = alike-agree z a k
 
-  pub step-agree : (c : Call) {o : Answer} {m′ : RowMap} → Step z m c o m′ → (o ≡ answer z s c) × Agree z m′ (after z s c)
+  pub step-agree : (c : Single) {o : Answer} {m′ : RowMap} → Step z m c o m′ → (o ≡ answer z s c) × Agree z m′ (after z s c)
   unfolding after
   step-agree c st = (st .says ∙ answer-same z a c, either-agree c (verdict z s c) refl (rw (verdict-same z a c) at (st .goes)))
 
   -- as many places in use as marks
   pub used-agree : placesUsed (z .rows) (m .tags) (m .place) ≡ placesUsed (z .rows) (s .snapshots) (s .rows .mark)
   used-agree = used-same (z .rows) (a .rows)
-
-pub runs-agree : (z : Size) {m m′ : RowMap} {s : Model} {cs : List Call} {os : List Answer} → Agree z m s → Runs z m cs os m′
-    → (os ≡ answers z s cs) × Agree z m′ (final z s cs)
-unfolding answers final
-runs-agree z a done = (refl, a)
-runs-agree z a (next {c = c} st rest) =
-    let (e, b) = step-agree z a c st in
-    let (es, last) = runs-agree z b rest in
-    (ap₂ _∷_ e es, last)
 
 -- where it begins: with the opened model, and, of any map whose rows keep apart, with the model that has its places for marks
 pub first-agree : (z : Size) → Agree z (firstMap (replicate (z .width) 0)) (opened z)

@@ -10,9 +10,9 @@ use lib.Dec.{leb}
 use borrow.Author.Tests.{eqb-false, leb-false, not-false}
 use Rattle.basics.specs.Equal.{equal}
 use Rattle.measures.specs.declared.Size.{Size}
-use Rattle.model.specs.Call.{Call, snapshot, read, write, delete, count}
-use Rattle.answers.specs.Answers.{Refusal, places-full, row, counts, refused}
-use Rattle.model.specs.Model.{Model, tests, accepted, verdict, answer}
+use Rattle.model.specs.Call.{Single, snapshot, read, write, delete, count, one}
+use Rattle.answers.specs.Answers.{Refusal, places-full, row, counts, refusedOf}
+use Rattle.model.specs.Model.{Model, tests, gives, accepted, verdict, answer}
 use Rattle.answers.specs.Tests.{Tests, orElse, refusal, unless}
 use Rattle.answers.specs.Laws.{refusal-same}
 use Rattle.copies.specs.Copies.{Cell, alive, snapshotsAlive, Live}
@@ -62,7 +62,7 @@ module _ (z : Size) {m : RowMap} {s : Model} (a : Agree z m s) where
   snapshots-same : snapshotsAlive (m .tags) ≡ snapshotsAlive (s .snapshots)
   snapshots-same = snapshots-tags (m .tags) (s .snapshots) living-same
 
-  pub verdict-same : (c : Call) → mapVerdict z m c ≡ verdict z s c
+  pub verdict-same : (c : Single) → mapVerdict z m c ≡ verdict z s c
   unfolding mapVerdict verdict tests
   verdict-same (snapshot u t) = rw (living-same u, living-same t, snapshots-same)
   verdict-same (read t r) = rw (living-same t)
@@ -73,7 +73,7 @@ module _ (z : Size) {m : RowMap} {s : Model} (a : Agree z m s) where
   verdict-same (delete t) = rw (living-same t)
   verdict-same count = refl
 
-  accepted-same : (c : Call) → verdict z s c ≡ none → accepted z (m .tags) (m .place) (λ d. m .content (m .place d)) c ≡ accepted z (s .snapshots) (s .rows .mark) (s .rows .content) c
+  accepted-same : (c : Single) → verdict z s c ≡ none → accepted z (m .tags) (m .place) (λ d. m .content (m .place d)) c ≡ accepted z (s .snapshots) (s .rows .mark) (s .rows .content) c
   unfolding accepted verdict
   accepted-same (snapshot u t) e = refl
   accepted-same (read t r) e = ap row (a .rows .content (t, r) (read-passed z (s .snapshots) (s .rows .mark) (s .rows .content) t r e))
@@ -81,6 +81,6 @@ module _ (z : Size) {m : RowMap} {s : Model} (a : Agree z m s) where
   accepted-same (delete t) e = refl
   accepted-same count e = ap₂ counts (used-same (z .rows) (a .rows)) snapshots-same
 
-  pub answer-same : (c : Call) → mapAnswer z m c ≡ answer z s c
+  pub answer-same : (c : Single) → mapAnswer z m c ≡ answer z s c
   unfolding mapAnswer answer
-  answer-same c = rw (verdict-same c) (unless-same (verdict z s c) refused (accepted-same c))
+  answer-same c = rw (verdict-same c) (unless-same (verdict z s c) (refusedOf (gives (one c))) (accepted-same c))

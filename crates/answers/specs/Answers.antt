@@ -1,11 +1,12 @@
 -- What a call answers, and the number of each refusal (SPEC 7.2). Definitions only. Assumes nothing.
-use mathlib.Core.List.{List, []}
+use mathlib.Core.List.{List, [], _∷_}
 use Prim.Native.Nat.{ℕ}
+use lib.ListN.{replicate}
 
 pub data Refusal : Type 0 where
   bad-size bad-length bad-row zero-tag origin-tag : Refusal
   unknown-command cut-command long-stream : Refusal
-  unsound unknown-tag tag-alive snapshots-full places-full : Refusal
+  unsound unknown-tag tag-alive snapshots-full places-full too-many-rows : Refusal
 
 abbrev pub number : Refusal → ℕ
 number bad-size = 1
@@ -21,37 +22,31 @@ number unknown-tag = 21
 number tag-alive = 22
 number snapshots-full = 23
 number places-full = 24
+number too-many-rows = 25
 
-pub data Answer : Type 0 where
-  done : Answer
-  -- the bytes that were read
-  row : List ℕ → Answer
-  -- places in use, snapshots alive
-  counts : ℕ → ℕ → Answer
-  refused : Refusal → Answer
+-- What a caller is handed: a number, the bytes of a row (else none), and the numbers that the call gives beside, each 0 if it is refused
+pub record Answer : Type 0 where
+  pub number : ℕ
+  pub bytes : List ℕ
+  pub numbers : List ℕ
 
--- What the caller is handed: a number, a row (else empty), two counts (else zero)
+abbrev pub handed : ℕ → List ℕ → List ℕ → Answer
+handed number bytes numbers = record { number = number; bytes = bytes; numbers = numbers }
 
-abbrev pub numberOf : Answer → ℕ
-numberOf done = 0
-numberOf (row bs) = 0
-numberOf (counts u s) = 0
-numberOf (refused r) = number r
+abbrev pub done : Answer
+done = handed 0 [] []
 
-abbrev pub rowOf : Answer → List ℕ
-rowOf done = []
-rowOf (row bs) = bs
-rowOf (counts u s) = []
-rowOf (refused r) = []
+-- the bytes that were read
+abbrev pub row : List ℕ → Answer
+row bytes = handed 0 bytes []
 
-abbrev pub usedOf : Answer → ℕ
-usedOf done = 0
-usedOf (row bs) = 0
-usedOf (counts u s) = u
-usedOf (refused r) = 0
+-- places in use, snapshots alive
+abbrev pub counts : ℕ → ℕ → Answer
+counts used snapshots = handed 0 [] (used ∷ snapshots ∷ [])
 
-abbrev pub snapshotsOf : Answer → ℕ
-snapshotsOf done = 0
-snapshotsOf (row bs) = 0
-snapshotsOf (counts u s) = s
-snapshotsOf (refused r) = 0
+-- a refusal of a call that gives n numbers, and of one that gives none
+abbrev pub refusedOf : ℕ → Refusal → Answer
+refusedOf n r = handed (number r) [] (replicate n 0)
+
+abbrev pub refused : Refusal → Answer
+refused r = refusedOf 0 r

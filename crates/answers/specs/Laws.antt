@@ -1,5 +1,5 @@
 -- Laws of tests in a row: one that holds refuses, one that does not is passed over; and no refusal has the number 0. Assumes nothing.
-use mathlib.Core.Path.{_≡_, refl}
+use mathlib.Core.Path.{_≡_, refl, ap}
 use mathlib.Core.Bool.{Bool, true, false, _&&_}
 use mathlib.Core.List.{[], _∷_}
 use mathlib.Core.Option.{Option, none, some}
@@ -10,7 +10,7 @@ use borrow.Author.Tests.{leb-true, le-leb}
 use Rattle.basics.specs.Decide.{and-yes, both}
 use Rattle.measures.specs.declared.Size.{Size}
 use Rattle.measures.specs.Measures.{Within}
-use Rattle.answers.specs.Answers.{Refusal, bad-size, bad-length, bad-row, zero-tag, origin-tag, unknown-command, cut-command, long-stream, unsound, unknown-tag, tag-alive, snapshots-full, places-full, number}
+use Rattle.answers.specs.Answers.{Refusal, bad-size, bad-length, bad-row, zero-tag, origin-tag, unknown-command, cut-command, long-stream, unsound, unknown-tag, tag-alive, snapshots-full, places-full, too-many-rows, number, handed, done, refused}
 use Rattle.answers.specs.Tests.{Tests, refusal, unless, verdictNumber, inMeasure}
 
 pub refusal-here : {b : Bool} (r : Refusal) (ts : Tests) → b ≡ true → refusal ((b, r) ∷ ts) ≡ some r
@@ -51,6 +51,7 @@ number-some unknown-tag e = omega (arith, e)
 number-some tag-alive e = omega (arith, e)
 number-some snapshots-full e = omega (arith, e)
 number-some places-full e = omega (arith, e)
+number-some too-many-rows e = omega (arith, e)
 
 -- later tests may be compared as if the earlier ones did not hold
 pub refusal-same : (b : Bool) (r : Refusal) (ts us : Tests) → (b ≡ false → refusal ts ≡ refusal us) → refusal ((b, r) ∷ ts) ≡ refusal ((b, r) ∷ us)
@@ -62,6 +63,11 @@ refusal-same false r ts us h = h refl
 pub verdict-none : (v : Option Refusal) → verdictNumber v ≡ 0 → v ≡ none
 verdict-none none e = refl
 verdict-none (some r) e = absurd (number-some r e)
+
+-- a verdict's number alone is the answer of a call that gives nothing beside
+pub plain : (v : Option Refusal) {n : ℕ} → n ≡ verdictNumber v → handed n [] [] ≡ unless v refused done
+plain none e = ap (λ (n : ℕ). handed n [] []) e
+plain (some r) e = ap (λ (n : ℕ). handed n [] []) e
 
 -- the test of the measures answers whether they are within their limits
 pair-yes : (a b c d : ℕ) → (a ≤ b) × (c ≤ d) → (leb a b && leb c d) ≡ true

@@ -1,3 +1,5 @@
 pub mod Answers
 pub mod Tests
 pub mod Laws
+pub mod InOrder
+pub mod InOrderLaws

@@ -5,7 +5,7 @@ use mathlib.Core.Option.{Option, none, some}
 use Prim.Native.Nat.{ℕ, _-_, _*_}
 use lib.Dec.{eqb, leb}
 use Rattle.measures.specs.declared.Size.{Size}
-use Rattle.answers.specs.Answers.{Refusal, bad-size, bad-length, done, refused, numberOf}
+use Rattle.answers.specs.Answers.{Refusal, bad-size, bad-length, number}
 
 abbrev pub Tests : Type 0
 Tests = List (Bool × Refusal)
@@ -26,7 +26,7 @@ unless (some r) f a = f r
 
 -- the number that a verdict answers, 0 if it accepts
 abbrev pub verdictNumber : Option Refusal → ℕ
-verdictNumber v = numberOf (unless v refused done)
+verdictNumber v = unless v number 0
 
 -- Opening
 

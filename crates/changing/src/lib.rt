@@ -2,7 +2,7 @@
 ghost use Prim.Native.Nat.{_+_, _≤_};
 ghost use lib.ListN.{length};
 ghost use Rattle.commands.specs.Format.{rowAt};
-ghost use Rattle.model.specs.Call.{snapshot, write, delete};
+ghost use Rattle.model.specs.Call.{snapshot, write, delete, one};
 ghost use Rattle.progress.specs.Replying.{Room, Answered, Answers};
 use measures::Row;
 use progress::Progress;
@@ -17,7 +17,7 @@ pub fn snapshot<'a>(
     out: &mut [u8],
 ) -> Progress
     requires { ⌜ Room run 12 (now out) ⌝ }
-    ensures { λ r. ⌜ Answers run (now (node .entry)) (now (row .entry)) (snapshot source tag) (now (out .entry)) r (now (node .entry)) (now (row .entry)) (now (out .exit)) ⌝ }
+    ensures { λ r. ⌜ Answers run (now (node .entry)) (now (row .entry)) (one (snapshot source tag)) (now (out .entry)) r (now (node .entry)) (now (row .entry)) (now (out .exit)) ⌝ }
 {
     let tree = run.tree;
     let s = snapshots::snapshot(run.size, tree, node, row, source, tag);
@@ -30,7 +30,7 @@ pub fn snapshot<'a>(
 // A delete, and its line.
 pub fn delete(run: Progress, node: &mut [u8], row: &mut [u16], tag: u16, out: &mut [u8]) -> Progress
     requires { ⌜ Room run 12 (now out) ⌝ }
-    ensures { λ r. ⌜ Answers run (now (node .entry)) (now (row .entry)) (delete tag) (now (out .entry)) r (now (node .exit)) (now (row .exit)) (now (out .exit)) ⌝ }
+    ensures { λ r. ⌜ Answers run (now (node .entry)) (now (row .entry)) (one (delete tag)) (now (out .entry)) r (now (node .exit)) (now (row .exit)) (now (out .exit)) ⌝ }
 {
     let tree = run.tree;
     let d = deleting::delete(run.size, tree, node, row, tag);
@@ -53,7 +53,7 @@ pub fn write(
     out: &mut [u8],
 ) -> Progress
     requires { ⌜ Room run 12 (now out) × ((at + 5) + run .size .width ≤ length (now stream)) ⌝ }
-    ensures { λ w. ⌜ Answered run (now (node .entry)) (now (row .entry)) (now (places .entry)) (write tag r (rowAt (run .size .width) (now (stream .entry)) at)) (now (out .entry))
+    ensures { λ w. ⌜ Answered run (now (node .entry)) (now (row .entry)) (now (places .entry)) (one (write tag r (rowAt (run .size .width) (now (stream .entry)) at))) (now (out .entry))
         w (now (node .exit)) (now (row .exit)) (now (places .exit)) (now (out .exit)) ⌝ }
 {
     let tree = run.tree;

@@ -9,7 +9,7 @@ use Rattle.basics.specs.Decide.{at}
 use Rattle.laying.specs.Laid.{pairAt}
 use Rattle.answers.specs.Answers.{Refusal, unknown-command, cut-command}
 use Rattle.answers.specs.Tests.{verdictNumber}
-use Rattle.model.specs.Call.{Call, snapshot, read, write, delete, count}
+use Rattle.model.specs.Call.{snapshot, read, write, delete, count, Call, one}
 use Rattle.commands.specs.declared.Command.{Command}
 use Rattle.commands.specs.declared.Command.the-variants.{Over, Unknown, Cut, Snapshot, Read, Write, Delete, Count}
 use Rattle.commands.specs.declared.Step.{Step}
@@ -76,11 +76,11 @@ abbrev pub callAt : ℕ → List ℕ → ℕ → Command → Option Call
 callAt width s p Over = none
 callAt width s p Unknown = none
 callAt width s p Cut = none
-callAt width s p (Snapshot source tag) = some (snapshot source tag)
-callAt width s p (Read tag row) = some (read tag row)
-callAt width s p (Write tag row) = some (write tag row (rowAt width s p))
-callAt width s p (Delete tag) = some (delete tag)
-callAt width s p Count = some count
+callAt width s p (Snapshot source tag) = some (one (snapshot source tag))
+callAt width s p (Read tag row) = some (one (read tag row))
+callAt width s p (Write tag row) = some (one (write tag row (rowAt width s p)))
+callAt width s p (Delete tag) = some (one (delete tag))
+callAt width s p Count = some (one count)
 
 -- A whole stream, from p on. Every command has a byte at least, so `most` commands are enough where as many bytes are left
 

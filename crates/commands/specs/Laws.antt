@@ -13,7 +13,7 @@ use lib.ListN.{length}
 use Rattle.basics.specs.Decide.{at}
 use Rattle.laying.specs.Laid.{pairAt}
 use Rattle.answers.specs.Tests.{verdictNumber}
-use Rattle.model.specs.Call.{Call, write}
+use Rattle.model.specs.Call.{write, Call, one}
 use Rattle.commands.specs.declared.Command.{Command}
 use Rattle.commands.specs.declared.Step.{Step}
 use Rattle.commands.specs.declared.Command.the-variants.{Over, Unknown, Cut, Snapshot, Read, Write, Delete, Count}
@@ -150,7 +150,7 @@ module _ (width : ℕ) (s : List ℕ) (p : ℕ) where
   -- and its row lies inside the stream
   pub write-inside : {tag row : ℕ} → stepAt width s p .command ≡ Write tag row → (p + 5) + width ≤ length s
   write-inside {tag} {row} e =
-      let h : callAt width s p (stepAt width s p .command) ≡ some (write tag row (rowAt width s p)) = rw e in
+      let h : callAt width s p (stepAt width s p .command) ≡ some (one (write tag row (rowAt width s p))) = rw e in
       let r = call-whole h in
       let c : commandOf s p (at s p) ≡ Write tag row = sym (ap (λ (x : Step). x .command) (step-whole r)) ∙ e in
       let k = kind-three (at s p) (rw c) in

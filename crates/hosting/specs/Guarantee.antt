@@ -3,7 +3,7 @@
 use mathlib.Core.Path.{_≡_, refl, sym, _∙_, ap, ap₂}
 use mathlib.Core.Logic.{_≢_, by-cases}
 use mathlib.Core.Bool.{Bool, true, false, not}
-use mathlib.Core.List.{List, [], _∷_, map}
+use mathlib.Core.List.{List, [], _∷_}
 use mathlib.Core.Option.{Option, none, some}
 use Prim.Native.Nat.{ℕ, _+_, _*_, _≤_}
 use native.Mathlib.Decide.{ℕ-discrete}
@@ -16,35 +16,39 @@ use Rattle.basics.specs.Decide.{not-yes, not-no}
 use Rattle.measures.specs.declared.Size.{Size}
 use Rattle.measures.specs.Measures.{Within}
 use Rattle.records.specs.Records.{Records, recordsOf, lives}
-use Rattle.model.specs.Call.{Call}
+use Rattle.model.specs.Call.{Call, one}
 use Rattle.model.specs.Call as on-records
-use Rattle.answers.specs.Answers.{Refusal, bad-size, bad-length, bad-row, unknown-tag, row, refused, number}
-use Rattle.model.specs.Model.{Model, tests, opened, verdict, answer, after}
+use Rattle.answers.specs.Answers.{Refusal, bad-size, bad-length, bad-row, unknown-tag, Answer, handed, row, refused, number}
+use Rattle.model.specs.Model.{Model, opened, reply, next}
 use Rattle.answers.specs.Tests.{refusal, unless, inMeasure}
-use Rattle.answers.specs.Laws.{refusal-here, refusal-next, refusal-passed, unless-made, measure-in, number-some}
+use Rattle.answers.specs.Laws.{refusal-here, refusal-next, refusal-none, refusal-passed, unless-made, measure-in, number-some}
 use Rattle.soundness.specs.Judged.{Leaves, judged-sound}
 use Rattle.edits.specs.Edits.{Whole, withTree}
-use Rattle.reads.specs.Reads.{Hands, readAnswer, rowOfTag}
+use Rattle.reads.specs.Reads.{readAnswer, rowOfTag}
 use Rattle.reads.specs.Reads as queries
 use Rattle.takes.specs.Taking.{snapshotVerdict, snapshotTree}
 use Rattle.owning.specs.Owning.{Held, held}
 use Rattle.writes.specs.Writing.{writeVerdict, written}
+use Rattle.borders.specs.Bordering.{bordered, Ends}
+use Rattle.borders.specs.BorderingWays.{bordered-none}
 use Rattle.deletes.specs.Deleting.{Left, left, deleteVerdict, deleted}
 use Rattle.opening.specs.First.{first-sound}
 use Rattle.view.specs.View.{Store, started}
 use Rattle.view.specs.Starts.{open-agrees}
 use Rattle.steps.specs.Begins.{start-call}
 use Rattle.steps.specs.Calls.{Runs, snapshot-call, write-call, delete-call}
-use Rattle.theorem.specs.Trace.{state, Handed, Call-ends, handedOf}
+use Rattle.steps.specs.Bordered.{border-call}
+use Rattle.theorem.specs.Trace.{state, Call-ends}
 use Rattle.theorem.specs.Trace as trace
 use Rattle.theorem.specs.Theorem.{one-call, runs-equal}
 use Rattle.laying.specs.Laws.{numbers-size}
 use Rattle.layout.specs.Layout.{statesAt, parentsAt, tagsAt, entries, part, stored, loaded, Fits}
 use Rattle.layout.specs.Back.{Storable, loaded-stored, stored-fits}
 use Rattle.host_read.specs.Reads.{readTests}
+use Rattle.host_border.specs.Borders.{bytesAfter}
 use Rattle.host_open.specs.Opens.{openTests, firstRecords, HostOpens}
-use Rattle.hosting.specs.Calls.{HostCall, read, hostVerdict, hostAnswer, hostAfter, hostAnswers, hostFinal}
-use Rattle.hosting.specs.Called.{rowIn, Host-ends, snapshot-ends, read-ends, write-ends, delete-ends, count-ends, Host-trace, over, then, Holds}
+use Rattle.hosting.specs.Calls.{HostCall, read, roomVerdict, hostAnswer, hostAfter, hostAnswers, hostFinal}
+use Rattle.hosting.specs.Called.{rowIn, Host-ends, snapshot-ends, read-ends, write-ends, border-ends, delete-ends, count-ends, Host-trace, over, then, Holds}
 
 -- records that run can be stored
 runs-storable : {z : Records} {places : List ℕ} {m : Model} → Runs z places m → Storable z
@@ -75,6 +79,13 @@ pair-chosen : (v : Option Refusal) (z : Records) (b places : List ℕ) (h : Held
 pair-chosen none z b places h e = (ap (λ (p : List ℕ × List ℕ). p .0) e, ap (λ (p : List ℕ × List ℕ). p .1) e)
 pair-chosen (some x) z b places h e = (ap (λ (p : List ℕ × List ℕ). p .0) e, ap (λ (p : List ℕ × List ℕ). p .1) e)
 
+-- A border that did some row leaves what it stored; one that did none leaves the bytes, and has changed nothing
+reload-border : (b : List ℕ) → Fits b → (n : ℕ) (h old : Held) {b′ : List ℕ} → loaded b ≡ heldOf (loaded b) old → (n ≡ 0 → h ≡ old) → b′ ≡ bytesAfter b n (stored (heldOf (loaded b) h)) → Storable (heldOf (loaded b) h)
+    → (loaded b′ ≡ heldOf (loaded b) h) × Fits b′
+reload-border b f n h old {b′} here same e s = by-cases (ℕ-discrete n 0)
+    (λ z. let k : b′ ≡ b = rw (eq-eqb n 0 z) at e in rw k (here ∙ ap (heldOf (loaded b)) (sym (same z)), f))
+    (λ z. let k : b′ ≡ stored (heldOf (loaded b) h) = rw (ne-eqb n 0 z) at e in rw k (loaded-stored (heldOf (loaded b) h) s, stored-fits (heldOf (loaded b) h) s))
+
 -- A read into as many bytes as a row has is a read
 
 passes : (p r t : Bool) → refusal ((p, bad-length) ∷ (false, bad-length) ∷ (r, bad-row) ∷ (t, unknown-tag) ∷ []) ≡ refusal ((p, bad-length) ∷ (r, bad-row) ∷ (t, unknown-tag) ∷ [])
@@ -86,13 +97,13 @@ read-tests : (z : Records) (places out : List ℕ) (tag r : ℕ) → length out 
 unfolding readTests queries.readTests
 read-tests z places out tag r e = rw (e, eq-eqb (z .size .width) (z .size .width) refl) (passes (not (eqb (length places) (z .size .places * z .size .width))) (leb (z .size .rows) r) (not (lives z tag)))
 
-read-hands : (v : Option Refusal) (bytes out out′ : List ℕ) {answer : ℕ} → Leaves v out bytes answer out′ → Hands (unless v refused (row bytes)) answer (rowIn answer out′)
+read-hands : (v : Option Refusal) (bytes out out′ : List ℕ) {answer : ℕ} → Leaves v out bytes answer out′ → handed answer (rowIn answer out′) [] ≡ unless v refused (row bytes)
 unfolding rowIn
-read-hands none bytes out out′ l = record { numbered = l .numbered; handed = rw (l .numbered, l .left) }
-read-hands (some x) bytes out out′ l = record { numbered = l .numbered; handed = rw (l .numbered, ne-eqb (number x) 0 (number-some x)) }
+read-hands none bytes out out′ l = rw (l .numbered, l .left)
+read-hands (some x) bytes out out′ l = rw (l .numbered, ne-eqb (number x) 0 (number-some x))
 
-answered : (z : Records) (places : List ℕ) (tag r number : ℕ) (bytes : List ℕ) → Hands (unless (refusal (queries.readTests z (length places) tag r)) refused (row (rowOfTag z places tag r))) number bytes
-    → Hands (readAnswer z places tag r) number bytes
+answered : (z : Records) (places : List ℕ) (tag r number : ℕ) (bytes : List ℕ) → handed number bytes [] ≡ unless (refusal (queries.readTests z (length places) tag r)) refused (row (rowOfTag z places tag r))
+    → handed number bytes [] ≡ readAnswer z places tag r
 unfolding readAnswer
 answered z places tag r number bytes h = h
 
@@ -109,21 +120,21 @@ unfilled v bytes out out′ {answer} e l = let n : answer ≡ 2 = l .numbered �
 -- One call from C, and what the model says of it
 
 module _ (z : Size) (m : Model) where
-  room-fits : (tag r n : ℕ) → n ≡ z .width → (hostAnswer z m (read tag r n) ≡ answer z m (on-records.read tag r)) × (hostAfter z m (read tag r n) ≡ after z m (on-records.read tag r))
-  unfolding hostAnswer hostAfter hostVerdict answer after verdict
+  room-fits : (tag r n : ℕ) → n ≡ z .width → (hostAnswer z m (read tag r n) ≡ reply z m (one (on-records.read tag r))) × (hostAfter z m (read tag r n) ≡ next z m (one (on-records.read tag r)))
+  unfolding hostAnswer hostAfter
   room-fits tag r n e =
-      let v : hostVerdict z m (read tag r n) ≡ verdict z m (on-records.read tag r) = refusal-next bad-length (tests z (m .snapshots) (m .rows .mark) (m .rows .content) (on-records.read tag r)) (not-no (eq-eqb n (z .width) e)) in
+      let v : roomVerdict z (read tag r n) ≡ none = refusal-next bad-length [] (not-no (eq-eqb n (z .width) e)) ∙ refusal-none in
       (rw v, rw v)
 
   room-wrong : (tag r n : ℕ) → n ≢ z .width → (hostAnswer z m (read tag r n) ≡ refused bad-length) × (hostAfter z m (read tag r n) ≡ m)
-  unfolding hostAnswer hostAfter hostVerdict
+  unfolding hostAnswer hostAfter
   room-wrong tag r n e =
-      let v : hostVerdict z m (read tag r n) ≡ some bad-length = refusal-here bad-length (tests z (m .snapshots) (m .rows .mark) (m .rows .content) (on-records.read tag r)) (not-yes (ne-eqb n (z .width) e)) in
+      let v : roomVerdict z (read tag r n) ≡ some bad-length = refusal-here bad-length [] (not-yes (ne-eqb n (z .width) e)) in
       (rw v, rw v)
 
 -- what is to be shown of one call from C
-pub record Told (b : List ℕ) (m : Model) (c : HostCall) (h : Handed) (b′ places′ : List ℕ) : Type 0 where
-  pub hands : h ≡ handedOf (hostAnswer (loaded b .size) m c)
+pub record Told (b : List ℕ) (m : Model) (c : HostCall) (h : Answer) (b′ places′ : List ℕ) : Type 0 where
+  pub hands : h ≡ hostAnswer (loaded b .size) m c
   pub sized : loaded b′ .size ≡ loaded b .size
   pub fits : Fits b′
   pub runs : Runs (loaded b′) places′ (hostAfter (loaded b .size) m c)
@@ -133,12 +144,12 @@ module _ (b places : List ℕ) (m : Model) (f : Fits b) (run : Runs (loaded b) p
   z = loaded b
 
   -- it is a call on the records that the bytes are loaded as
-  told : {c : HostCall} {k : Call} {h : Handed} {b′ places′ : List ℕ} → hostAnswer (z .size) m c ≡ answer (z .size) m k → hostAfter (z .size) m c ≡ after (z .size) m k
+  told : {c : HostCall} {k : Call} {h : Answer} {b′ places′ : List ℕ} → hostAnswer (z .size) m c ≡ reply (z .size) m k → hostAfter (z .size) m c ≡ next (z .size) m k
       → Fits b′ → Call-ends z places k h (state (loaded b′) places′) → Told b m c h b′ places′
-  told p q fits k = let (h, e, r) = one-call run k in record { hands = h ∙ ap handedOf (sym p); sized = e; fits = fits; runs = rw q r }
+  told p q fits k = let (h, e, r) = one-call run k in record { hands = h ∙ sym p; sized = e; fits = fits; runs = rw q r }
 
-  host-call : {c : HostCall} {h : Handed} {b′ places′ : List ℕ} → Host-ends b places c h b′ places′ → Told b m c h b′ places′
-  unfolding hostAnswer hostAfter hostVerdict answer after verdict
+  host-call : {c : HostCall} {h : Answer} {b′ places′ : List ℕ} → Host-ends b places c h b′ places′ → Told b m c h b′ places′
+  unfolding hostAnswer hostAfter
   host-call (snapshot-ends {source = source} {new = new} {number = number} e) =
       let l = e .sound f (run .store .sound) in
       let v = snapshotVerdict z source new in
@@ -166,6 +177,13 @@ module _ (b places : List ℕ) (m : Model) (f : Fits b) (run : Runs (loaded b) p
       let (bytes, rest) = pair-chosen v z b places h (l .left) in
       let (same, fits) = reload b f v (heldOf z h) _ bytes (unless-made (heldOf z) v (held (z .tree) (z .node) (z .row) places) h) (runs-storable next) in
       told refl refl fits (rw (same, rest) (trace.write-ends (judged-sound (run .store .sound) got)))
+  host-call (border-ends {tag = tag} {number = number} {done = done} {rows = rows} {bytes = bytes} e) =
+      let l = e .sound f (run .store .sound) in
+      let x = bordered z places tag rows bytes in
+      let got : Ends x number done (x .left) = record { numbered = l .numbered; counted = l .counted; left = refl } in
+      let next = border-call z places m run tag rows bytes number done (x .left) got .1 in
+      let (same, fits) = reload-border b f (x .done) (x .left) (held (z .tree) (z .node) (z .row) places) refl (bordered-none z places tag rows bytes) (ap (λ (p : List ℕ × List ℕ). p .0) (l .left)) (runs-storable next) in
+      told refl refl fits (rw (same, ap (λ (p : List ℕ × List ℕ). p .1) (l .left)) (trace.border-ends (judged-sound (run .store .sound) got)))
   host-call (delete-ends {tag = tag} {number = number} e) =
       let l = e .sound f (run .store .sound) in
       let v = deleteVerdict z tag in
@@ -179,14 +197,14 @@ module _ (b places : List ℕ) (m : Model) (f : Fits b) (run : Runs (loaded b) p
 -- Any list of calls from C
 
 module _ (size : Size) where
-  host-list : {b places b′ places′ : List ℕ} {m : Model} {cs : List HostCall} {hs : List Handed} → Fits b → loaded b .size ≡ size → Runs (loaded b) places m → Host-trace b places cs hs b′ places′
-      → (hs ≡ map handedOf (hostAnswers size m cs)) × Holds size b′ places′ (hostFinal size m cs)
+  host-list : {b places b′ places′ : List ℕ} {m : Model} {cs : List HostCall} {hs : List Answer} → Fits b → loaded b .size ≡ size → Runs (loaded b) places m → Host-trace b places cs hs b′ places′
+      → (hs ≡ hostAnswers size m cs) × Holds size b′ places′ (hostFinal size m cs)
   unfolding hostAnswers hostFinal
   host-list f e run over = (refl, record { fits = f; equals = runs-equal size _ _ e run })
   host-list {b} {places} {m = m} f e run (then {c = c} k rest) =
       let t = host-call b places m f run k in
       let (hs, last) = host-list (t .fits) (t .sized ∙ e) (rw e at (t .runs)) rest in
-      (ap₂ _∷_ (t .hands ∙ ap (λ (x : Size). handedOf (hostAnswer x m c)) e) hs, last)
+      (ap₂ _∷_ (t .hands ∙ ap (λ (x : Size). hostAnswer x m c) e) hs, last)
 
 -- From an accepted opening
 
@@ -220,8 +238,8 @@ opened-runs z b places {b′} {places′} o = go (refusal (openTests z (length b
         rw (bytes, rest, long, loaded-stored (firstRecords z) s) (stored-fits (firstRecords z) s, refl, run)
 
 pub guarantee-opened : (z : Size) (b places b₀ places₀ : List ℕ) → HostOpens z b places 0 (b₀, places₀)
-    → {cs : List HostCall} {hs : List Handed} {b′ places′ : List ℕ} → Host-trace b₀ places₀ cs hs b′ places′
-    → (hs ≡ map handedOf (hostAnswers z (opened z) cs)) × Holds z b′ places′ (hostFinal z (opened z) cs)
+    → {cs : List HostCall} {hs : List Answer} {b′ places′ : List ℕ} → Host-trace b₀ places₀ cs hs b′ places′
+    → (hs ≡ hostAnswers z (opened z) cs) × Holds z b′ places′ (hostFinal z (opened z) cs)
 guarantee-opened z b places b₀ places₀ o t = let (f, e, run) = opened-runs z b places o in host-list z f e run t
 
 -- From bytes of sound records, with P × B bytes of places
@@ -234,6 +252,6 @@ loaded-whole b f = record { state = long statesAt 128 (omega (arith, f .long)); 
     long from n l = length-take-le n (drop from b) (omega (arith, length-drop from b))
 
 pub guarantee-sound : (b places : List ℕ) → Fits b → Store (loaded b) places
-    → {cs : List HostCall} {hs : List Handed} {b′ places′ : List ℕ} → Host-trace b places cs hs b′ places′
-    → (hs ≡ map handedOf (hostAnswers (loaded b .size) (started (loaded b) places) cs)) × Holds (loaded b .size) b′ places′ (hostFinal (loaded b .size) (started (loaded b) places) cs)
+    → {cs : List HostCall} {hs : List Answer} {b′ places′ : List ℕ} → Host-trace b places cs hs b′ places′
+    → (hs ≡ hostAnswers (loaded b .size) (started (loaded b) places) cs) × Holds (loaded b .size) b′ places′ (hostFinal (loaded b .size) (started (loaded b) places) cs)
 guarantee-sound b places f st t = host-list (loaded b .size) f refl (start-call (loaded b) places st (loaded-whole b f)) t

@@ -7,7 +7,7 @@ use Prim.Native.Nat.{ℕ, _<_}
 use lib.ListN.{length}
 use Rattle.basics.specs.Decide.{at}
 use Rattle.records.specs.Records.{lives}
-use Rattle.answers.specs.Answers.{Refusal}
+use Rattle.answers.specs.Answers.{Refusal, Answer}
 use Rattle.answers.specs.Tests.{unless}
 use Rattle.soundness.specs.Judged.{Leaves, judged-sound}
 use Rattle.reads.specs.Reads.{rowOfTag}
@@ -15,7 +15,7 @@ use Rattle.owning.specs.Owning.{held}
 use Rattle.writes.specs.Writing.{writeVerdict, written}
 use Rattle.wrote.specs.Wrote.{written-as-read}
 use Rattle.view.specs.View.{Store}
-use Rattle.theorem.specs.Trace.{Handed, over}
+use Rattle.theorem.specs.Trace.{over}
 use Rattle.theorem.specs.Trace as trace
 use Rattle.theorem.specs.Stores.{write-untouched}
 use Rattle.layout.specs.Layout.{loaded, Fits}
@@ -30,7 +30,7 @@ either-way (some r) x = refl
 
 -- bytes of a sound store, each below 256, whatever calls have left them
 module _ (b places : List ℕ) (f : Fits b) (low : (i : ℕ) → at b i < 256) (st : Store (loaded b) places) where
-  pub host-untouched : {tag r : ℕ} {bs b′ places′ : List ℕ} {h : Handed} → Host-ends b places (write tag r bs) h b′ places′
+  pub host-untouched : {tag r : ℕ} {bs b′ places′ : List ℕ} {h : Answer} → Host-ends b places (write tag r bs) h b′ places′
       → length bs ≡ loaded b .size .width → r < loaded b .size .rows → lives (loaded b) tag ≡ true → bs ≡ rowOfTag (loaded b) places tag r
       → (h .number ≡ 0) × (b′ ≡ b) × (places′ ≡ places)
   unfolding rowOfTag

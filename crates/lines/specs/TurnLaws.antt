@@ -2,26 +2,23 @@
 use mathlib.Core.Path.{_≡_, refl, sym, _∙_, ap}
 use mathlib.Core.Bool.{Bool, true, false, false≢true}
 use mathlib.Core.List.{List, [], _∷_, _++_, append-assoc, append-nil}
-use mathlib.Core.Option.{Option, none, some}
+use mathlib.Core.Option.{none, some}
 use Prim.Native.Nat.{ℕ, zero, suc, _+_, _*_, _≤_}
 use native.Mathlib.Nat.{mul-suc, mul-le-mul-left}
 use native.Mathlib.Omega.{arith}
-use lib.Dec.{eqb}
-use borrow.Author.Tests.{ne-eqb}
 use lib.ListN.{length}
 use Rattle.measures.specs.declared.Size.{Size}
 use Rattle.records.specs.Records.{Records}
-use Rattle.answers.specs.Answers.{Refusal, done, row, counts, refused, number, numberOf}
-use Rattle.answers.specs.Tests.{unless}
+use Rattle.answers.specs.Answers.{Refusal, Answer, refused, number}
 use Rattle.answers.specs.Laws.{number-some}
-use Rattle.model.specs.Call.{Call, snapshot, read, write, delete, count}
-use Rattle.model.specs.Model.{Model, answers, final, answer, after, accepted, verdict}
+use Rattle.model.specs.Call.{Call}
+use Rattle.model.specs.Model.{Model, answers, final, reply, next as modelAfter}
 use Rattle.steps.specs.Calls.{Runs}
-use Rattle.theorem.specs.Trace.{State, state, Handed, handedOf, Call-ends, leftBy}
+use Rattle.theorem.specs.Trace.{State, state, Call-ends, leftBy}
 use Rattle.theorem.specs.Theorem.{one-call}
 use Rattle.theorem.specs.Leaving.{call-leaves}
 use Rattle.text.specs.Text.{line, dash, shown, answerLine}
-use Rattle.text.specs.Laws.{line-most}
+use Rattle.text.specs.Laws.{shown-refused, answer-line, line-most}
 use Rattle.laying.specs.Laid.{Lays}
 use Rattle.laying.specs.Laws.{lays-as, lays-none}
 use Rattle.commands.specs.declared.Command.{Command}
@@ -31,42 +28,8 @@ use Rattle.commands.specs.Format.{refusalOf, changes, stepAt, callAt, callsFrom
 use Rattle.commands.specs.Laws.{stands, step-over, call-next, call-inside, not-over, step-number, write-inside}
 use Rattle.progress.specs.declared.Progress.{Progress}
 use Rattle.lines.specs.Lines.{numbered, endLine, textFrom}
-use Rattle.progress.specs.Replying.{lineRoom, recordsIn, stopped, Room, shownBy, Answered, Stopped}
+use Rattle.progress.specs.Replying.{lineRoom, recordsIn, stopped, Room, Answered, Stopped}
 use Rattle.lines.specs.Turns.{Ready, Onward, Turned}
-
--- A line says the same by the answer and by what is handed out
-
-dashes : (v : Option Refusal) → dash ≡ shown (unless v refused done)
-unfolding shown
-dashes none = refl
-dashes (some r) = refl
-
--- no refusal has the number 0
-no-zero : (r : Refusal) → eqb (number r) 0 ≡ false
-no-zero r = ne-eqb (number r) 0 (number-some r)
-
-rows : (v : Option Refusal) (bs : List ℕ) → shownBy (read 0 0) (handedOf (unless v refused (row bs))) ≡ shown (unless v refused (row bs))
-unfolding shown
-rows none bs = refl
-rows (some r) bs = rw (no-zero r)
-
-pairs : (v : Option Refusal) (u a : ℕ) → shownBy count (handedOf (unless v refused (counts u a))) ≡ shown (unless v refused (counts u a))
-unfolding shown
-pairs none u a = refl
-pairs (some r) u a = rw (no-zero r)
-
-module _ (z : Size) (m : Model) where
-  shown-by : (c : Call) → shownBy c (handedOf (answer z m c)) ≡ shown (answer z m c)
-  unfolding answer accepted
-  shown-by (snapshot s t) = dashes (verdict z m (snapshot s t))
-  shown-by (read t r) = rows (verdict z m (read t r)) (m .rows .content (t, r))
-  shown-by (write t r bs) = dashes (verdict z m (write t r bs))
-  shown-by (delete t) = dashes (verdict z m (delete t))
-  shown-by count = pairs (verdict z m count) _ _
-
-  pub line-by : (k : ℕ) (c : Call) {h : Handed} → h ≡ handedOf (answer z m c) → line k (h .number) (shownBy c h) ≡ answerLine k (answer z m c)
-  unfolding answerLine
-  line-by k c e = rw e (ap (line k (numberOf (answer z m c))) (shown-by c))
 
 -- The calls from a position on: one and the rest, or none
 
@@ -91,13 +54,13 @@ module _ (width : ℕ) (s : List ℕ) (p : ℕ) where
 
 module _ (z : Size) (s : List ℕ) where
   text-call : (n k : ℕ) (m : Model) (p next : ℕ) (c : Call) → callAt (z .width) s p (stepAt (z .width) s p .command) ≡ some c → stepAt (z .width) s p .next ≡ next
-      → textFrom z s (suc n) k m p ≡ answerLine k (answer z m c) ++ textFrom z s n (k + 1) (after z m c) next
+      → textFrom z s (suc n) k m p ≡ answerLine k (reply z m c) ++ textFrom z s n (k + 1) (modelAfter z m c) next
   unfolding textFrom numbered answers
   text-call n k m p next c e f =
       let a : k + suc (length (callsFrom (z .width) s n next)) ≡ (k + 1) + length (callsFrom (z .width) s n next) = omega arith in
       let b : suc k ≡ k + 1 = omega arith in
       rw (calls-call (z .width) s p n e f, end-call (z .width) s p n e f, a, b)
-      (append-assoc (answerLine k (answer z m c)) (numbered (k + 1) (answers z (after z m c) (callsFrom (z .width) s n next))) _)
+      (append-assoc (answerLine k (reply z m c)) (numbered (k + 1) (answers z (modelAfter z m c) (callsFrom (z .width) s n next))) _)
 
   -- at the end there is no line but the refusal's, and no call
   text-end : (n k : ℕ) (m : Model) (p : ℕ) {d : Command} → length s ≤ p + n → stepAt (z .width) s p .command ≡ d → callAt (z .width) s p d ≡ none → textFrom z s n k m p ≡ endLine k (refusalOf d)
@@ -132,8 +95,8 @@ module _ (z : Records) (places s : List ℕ) (p k : ℕ) (m : Model) where
   abbrev w : ℕ
   w = z .size .width
 
-  after-call : {c : Call} {h : Handed} {z′ : Records} {places′ : List ℕ} → callAt w s p (stepAt w s p .command) ≡ some c → Runs z places m → Call-ends z places c h (state z′ places′)
-      → (n : ℕ) → length s ≤ p + n → Onward z places s p k m (answerLine k (answer (z .size) m c)) z′ places′ (stepAt w s p .next) (k + 1) (after (z .size) m c) n
+  after-call : {c : Call} {h : Answer} {z′ : Records} {places′ : List ℕ} → callAt w s p (stepAt w s p .command) ≡ some c → Runs z places m → Call-ends z places c h (state z′ places′)
+      → (n : ℕ) → length s ≤ p + n → Onward z places s p k m (answerLine k (reply (z .size) m c)) z′ places′ (stepAt w s p .next) (k + 1) (modelAfter (z .size) m c) n
   unfolding final leftBy
   after-call e run ends zero l = absurd (omega (arith, l, call-next w s p e, call-inside w s p e))
   after-call {c} e run ends (suc n) l =
@@ -176,15 +139,15 @@ module _ {run : Progress} {node row places s : List ℕ} {p : ℕ} {out : List �
         long = y .lays .size;
         moves = λ g. (l, call-inside (wide run) s p e);
         ahead = omega (arith, l);
-        short = omega (arith, y .lays .ends, y .short, line-most (run .line) (h .number) (shownBy c h), mul-suc (lineRoom (wide run)) p, mul-le-mul-left (lineRoom (wide run)) l);
+        short = omega (arith, y .lays .ends, y .short, line-most (run .line) (h .number) (shown h), mul-suc (lineRoom (wide run)) p, mul-le-mul-left (lineRoom (wide run)) l);
         few = omega (arith, l);
         serves = λ m u.
             let (g, i, next) = one-call u (y .ends) in
             record {
-              model = after (run .size) m c;
+              model = modelAfter (run .size) m c;
               runs = next;
-              text = answerLine (run .line) (answer (run .size) m c);
-              lays = lays-as (line-by (run .size) m (run .line) c g) (y .lays);
+              text = answerLine (run .line) (reply (run .size) m c);
+              lays = lays-as (answer-line (run .line) g) (y .lays);
               rest = after-call (recordsIn run node row) places s p (run .line) m e u (y .ends);
             };
       })
@@ -216,12 +179,12 @@ module _ {run : Progress} {node row places s : List ℕ} {p : ℕ} {out : List �
   -- an unknown kind, or a command that is cut, gets the line of its refusal
   pub turn-stop : {st : Step} {x : Refusal} {r : Progress} {out′ : List ℕ} (d : Command) → st ≡ stepAt (wide run) s p → st .command ≡ d → callAt (wide run) s p d ≡ none → refusalOf d ≡ some x → stands d ≡ true
       → Stopped run (st .number) out r out′ → Turned run node row places s p out r node row places out′ (st .next)
-  unfolding endLine answerLine shown
+  unfolding endLine answerLine
   turn-stop {st} {x} d e g f v o a =
       let c : stepAt (wide run) s p .command ≡ d = ap (λ (y : Step). y .command) (sym e) ∙ g in
       let l = not-over (wide run) s p c o in
       let n : st .number ≡ number x = rw e (step-number (wide run) s p ∙ rw (c, v)) in
-      let t : endLine (run .line) (refusalOf d) ≡ line (run .line) (st .number) dash = rw (v, n) in
+      let t : endLine (run .line) (refusalOf d) ≡ line (run .line) (st .number) dash = rw (v, n) (ap (line (run .line) (number x)) (shown-refused (refused x) (number-some x))) in
       rw (a .goes) (turn-end c f (omega (arith, l)) t (omega (arith, line-most (run .line) (st .number) dash, mul-suc (lineRoom (wide run)) p, mul-le-mul-left (lineRoom (wide run)) l)) (a .lays))
 
   -- the end of the stream gets none

@@ -7,8 +7,8 @@ use lib.ListN.{length, replicate, set}
 use Rattle.measures.specs.declared.Size.{Size}
 use Rattle.trees.specs.declared.Tree.{Tree}
 use Rattle.trees.specs.Trees.{treeOf}
-use Rattle.answers.specs.Answers.{Refusal, done, refused, numberOf}
-use Rattle.answers.specs.Tests.{refusal, openTests, unless}
+use Rattle.answers.specs.Answers.{Refusal}
+use Rattle.answers.specs.Tests.{refusal, openTests, unless, verdictNumber}
 
 -- no node in use; and node 0 alone, alive, with tag 0 and parent 0
 abbrev pub noTree : Tree
@@ -22,7 +22,7 @@ openVerdict z places node row = refusal (openTests z (length places) (length nod
 
 -- the lists are the buffers as lent, and then as left
 pub record Opening (z : Size) (places node row : List ℕ) (answer : ℕ) (tree : Tree) (places′ node′ row′ : List ℕ) : Type 0 where
-  pub answers : answer ≡ numberOf (unless (openVerdict z places node row) refused done)
+  pub answers : answer ≡ verdictNumber (openVerdict z places node row)
   pub grows : tree ≡ unless (openVerdict z places node row) (λ r. noTree) firstTree
   pub bytes : places′ ≡ unless (openVerdict z places node row) (λ r. places) (replicate (length places) 0)
   pub nodes : node′ ≡ unless (openVerdict z places node row) (λ r. node) (replicate (length node) 0)

@@ -1,16 +1,15 @@
 -- A run between two commands, and what a call with its line does to it. Definitions only. Assumes nothing.
 use mathlib.Core.Path.{_≡_}
-use mathlib.Core.Bool.{true, false, cond}
+use mathlib.Core.Bool.{true, false}
 use mathlib.Core.List.{List}
 use Prim.Native.Nat.{ℕ, _+_, _*_, _≤_}
-use lib.Dec.{eqb}
 use lib.ListN.{length}
 use Rattle.trees.specs.declared.Tree.{Tree}
 use Rattle.records.specs.Records.{Records, recordsOf}
-use Rattle.model.specs.Call.{Call, snapshot, read, write, delete, count}
-use Rattle.theorem.specs.Trace.{Handed, state, Call-ends}
-use Rattle.digits.specs.Digits.{hex}
-use Rattle.text.specs.Text.{line, dash, pairText}
+use Rattle.answers.specs.Answers.{Answer}
+use Rattle.model.specs.Call.{Call}
+use Rattle.theorem.specs.Trace.{state, Call-ends}
+use Rattle.text.specs.Text.{line, dash, shown}
 use Rattle.laying.specs.Laid.{Lays}
 use Rattle.progress.specs.declared.Progress.{Progress}
 
@@ -34,21 +33,12 @@ pub record Room (run : Progress) (n : ℕ) (out : List ℕ) : Type 0 where
   pub fits : run .end + n ≤ length out
   pub few : run .line ≤ 4097
 
--- The line of a call, from what it hands out
-
-abbrev pub shownBy : Call → Handed → List ℕ
-shownBy (snapshot source tag) h = dash
-shownBy (read tag r) h = cond (eqb (h .number) 0) (hex (h .bytes)) dash
-shownBy (write tag r bs) h = dash
-shownBy (delete tag) h = dash
-shownBy count h = cond (eqb (h .number) 0) (pairText (h .inUse) (h .alive)) dash
-
--- a call was made as its promise says, and its line was laid
+-- a call was made as its promise says, and the line of what it hands out was laid
 pub record Replied (z : Records) (places : List ℕ) (c : Call) (k : ℕ) (out : List ℕ) (from : ℕ) (z′ : Records) (places′ out′ : List ℕ) (to : ℕ) : Type 0 where
-  pub hands : Handed
+  pub hands : Answer
   pub ends : Call-ends z places c hands (state z′ places′)
-  pub lays : Lays out from (line k (hands .number) (shownBy c hands)) out′ to
-  pub short : length (shownBy c hands) ≤ 9 + 2 * z .size .width
+  pub lays : Lays out from (line k (hands .number) (shown hands)) out′ to
+  pub short : length (shown hands) ≤ 9 + 2 * z .size .width
 
 -- of a call that touches no place, whatever the places hold
 abbrev pub Replies : Records → Call → ℕ → List ℕ → ℕ → Records → List ℕ → ℕ → Type 0

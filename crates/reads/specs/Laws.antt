@@ -1,5 +1,5 @@
 -- The ways out of read, one for each test, and that a place read lies inside the places. Assumes nothing.
-use mathlib.Core.Path.{_≡_, refl, sym, _∙_, ap}
+use mathlib.Core.Path.{_≡_, sym, _∙_, ap}
 use mathlib.Core.Bool.{not}
 use mathlib.Core.List.{List, [], _∷_}
 use mathlib.Core.Option.{none, some}
@@ -19,7 +19,7 @@ use Rattle.records.specs.Sound.{Sound}
 use Rattle.tree.specs.Nodes.{version-alive}
 use Rattle.reading.specs.Lookup.{Looking}
 use Rattle.reading.specs.Used.{place-low}
-use Rattle.answers.specs.Answers.{Refusal, bad-length, bad-row, unknown-tag, number}
+use Rattle.answers.specs.Answers.{Refusal, bad-length, bad-row, unknown-tag, number, handed, row}
 use Rattle.answers.specs.Tests.{Tests, refusal}
 use Rattle.answers.specs.Laws.{refusal-here, refusal-next, refusal-none}
 use Rattle.soundness.specs.Judged.{judged-sound, judged-unsound}
@@ -37,7 +37,7 @@ module _ (z : Records) (places : List ℕ) (tag r : ℕ) where
   Promise number whole bytes part = ReadEnds z places tag r number bytes × ReadPart z places tag r whole part
 
   pub read-unsound : (Sound z → ⊥) → {whole part : Spot} {bytes : List ℕ} → Nothing whole bytes part → Promise 20 whole bytes part
-  read-unsound u (h, l) = (judged-unsound u (record { numbered = refl; handed = h }), judged-unsound u l)
+  read-unsound u (h, l) = (judged-unsound u (ap (λ (b : List ℕ). handed 20 b []) h), judged-unsound u l)
 
   tagTest : Tests
   tagTest = (not (lives z tag), unknown-tag) ∷ []
@@ -48,7 +48,7 @@ module _ (z : Records) (places : List ℕ) (tag r : ℕ) where
   module _ (s : Sound z) where
     read-refused : (x : Refusal) → refusal (readTests z (length places) tag r) ≡ some x → {whole part : Spot} {bytes : List ℕ} → Nothing whole bytes part → Promise (number x) whole bytes part
     unfolding readAnswer partFrom
-    read-refused x e (h, l) = (judged-sound s (record { numbered = rw e; handed = rw e h }), judged-sound s (rw e l))
+    read-refused x e (h, l) = (judged-sound s (rw (e, h)), judged-sound s (rw e l))
 
     pub read-length : (length places ≡ z .size .places * z .size .width → ⊥) → {whole part : Spot} {bytes : List ℕ} → Nothing whole bytes part → Promise 2 whole bytes part
     unfolding readTests
@@ -80,7 +80,7 @@ module _ (z : Records) (places : List ℕ) (tag r : ℕ) where
             let e : refusal (readTests z (length places) tag r) ≡ none = row-passed ∙ refusal-next unknown-tag [] (rw v) ∙ refusal-none in
             let f : tagPlace z tag r ≡ place (z .tree) (table z) n r = rw v in
             let g : partFrom z (length places) tag r ≡ beginsAt (z .size .width) (place (z .tree) (table z) n r) = rw e (ap (beginsAt (z .size .width)) f) in
-            (judged-sound s (record { numbered = rw e; handed = rw (e, v) h }), judged-sound s (rw g m))
+            (judged-sound s (rw (e, v) (ap row h)), judged-sound s (rw g m))
 
 -- the node of a living version is in use, and the lookup may start from it
 pub version-used : (t : Tree) (tag n : ℕ) → version t tag ≡ some n → InUse t n

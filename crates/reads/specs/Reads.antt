@@ -9,13 +9,8 @@ use Rattle.measures.specs.Measures.{beginsAt, bytesAt}
 use Rattle.placing.specs.Placing.{Spot, Lies}
 use Rattle.records.specs.Records.{Records, lives, tagPlace}
 use Rattle.soundness.specs.Judged.{Judged}
-use Rattle.answers.specs.Answers.{bad-length, bad-row, unknown-tag, unsound, Answer, row, refused, numberOf, rowOf}
+use Rattle.answers.specs.Answers.{bad-length, bad-row, unknown-tag, unsound, Answer, handed, row, refused}
 use Rattle.answers.specs.Tests.{Tests, refusal, unless}
-
--- the caller is handed an answer: its number and its row
-pub record Hands (a : Answer) (number : ℕ) (bytes : List ℕ) : Type 0 where
-  pub numbered : number ≡ numberOf a
-  pub handed : bytes ≡ rowOf a
 
 -- Reading: the tests of SPEC 7.1 after 20, and the bytes
 
@@ -37,9 +32,9 @@ readAnswer z places tag r = unless (refusal (readTests z (length places) tag r))
 unfoldable pub partFrom : Records → ℕ → ℕ → ℕ → ℕ
 partFrom z bytes tag r = unless (refusal (readTests z bytes tag r)) (λ x. 0) (beginsAt (z .size .width) (tagPlace z tag r))
 
--- The promise of read: on sound records the answer above, on others 20
+-- The promise of read: on sound records the answer above is handed out, on others 20
 abbrev pub ReadEnds : Records → List ℕ → ℕ → ℕ → ℕ → List ℕ → Type 0
-ReadEnds z places tag r number bytes = Judged z (Hands (readAnswer z places tag r) number bytes) (Hands (refused unsound) number bytes)
+ReadEnds z places tag r number bytes = Judged z (handed number bytes [] ≡ readAnswer z places tag r) (handed number bytes [] ≡ refused unsound)
 
 -- and which part of the places, lent at `whole`, a read hands out
 abbrev pub ReadPart : Records → List ℕ → ℕ → ℕ → Spot → Spot → Type 0

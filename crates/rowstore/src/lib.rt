@@ -3,6 +3,7 @@ ghost use Rattle.host_count.specs.Counts.{HostCounts};
 ghost use Rattle.host_snapshot.specs.Snapshots.{HostSnapshots};
 ghost use Rattle.host_delete.specs.Deletes.{HostDeletes};
 ghost use Rattle.host_write.specs.Writes.{HostWrites};
+ghost use Rattle.host_border.specs.Borders.{HostBorders};
 ghost use Rattle.host_read.specs.Reads.{HostReads};
 ghost use Rattle.host_open.specs.Opens.{HostOpens, sizeOf};
 use measures::Row;
@@ -44,6 +45,21 @@ pub extern "C" fn rowstore_write(
     ensures { λ answer. ⌜ HostWrites (now (records .entry)) (now (places .entry)) tag row (now (bytes .entry)) answer (now (records .exit), now (places .exit)) ⌝ }
 {
     host_write::write(records, places, tag, Row(row), bytes)
+}
+
+// Rows of the version with a tag are written, in their order, until one is refused; `done` counts those that were. Refusals: 20, 25, 2, 21, 3, 24.
+#[no_mangle]
+pub extern "C" fn rowstore_border(
+    records: &mut [u8],
+    places: &mut [u8],
+    tag: u16,
+    rows: &[u16],
+    bytes: &[u8],
+    done: &mut usize,
+) -> u8
+    ensures { λ answer. ⌜ HostBorders (now (records .entry)) (now (places .entry)) tag (now (rows .entry)) (now (bytes .entry)) answer (now (done .exit)) (now (records .exit), now (places .exit)) ⌝ }
+{
+    host_border::border(records, places, tag, rows, bytes, done)
 }
 
 // A row of the version with a tag is copied to `out`. Refusals: 20, 2, 3, 21.

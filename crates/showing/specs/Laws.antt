@@ -1,33 +1,33 @@
 -- A row that is read is short; then a call that asks, with its line, whose number is the one that the call answered. Assumes nothing.
-use mathlib.Core.Path.{_≡_, sym}
+use mathlib.Core.Path.{_≡_, sym, _∙_}
 use mathlib.Core.Logic.{_≢_, by-cases}
 use mathlib.Core.List.{List, []}
 use mathlib.Core.Option.{Option, none, some}
 use Prim.Native.Nat.{ℕ, _≤_}
 use native.Mathlib.Decide.{decLe}
 use native.Mathlib.Omega.{arith}
-use borrow.Author.Tests.{eq-eqb, ne-eqb}
 use lib.ListN.{length, drop, length-take}
 use Rattle.measures.specs.Measures.{bytesAt, beginsAt}
 use Rattle.records.specs.Records.{Records, tagPlace}
 use Rattle.records.specs.Sound.{Sound}
-use Rattle.model.specs.Call.{read, count}
-use Rattle.answers.specs.Answers.{Refusal, row, refused, rowOf}
+use Rattle.model.specs.Call.{read, count, one}
+use Rattle.answers.specs.Answers.{Refusal, handed, row, refused}
 use Rattle.answers.specs.Tests.{refusal, unless}
-use Rattle.counting.specs.Counting.{CountEnds}
+use Rattle.counting.specs.Counting.{counted, CountEnds}
 use Rattle.reads.specs.Reads.{ReadEnds, readTests, readAnswer, rowOfTag}
-use Rattle.theorem.specs.Trace.{handed, read-ends, count-ends}
+use Rattle.reads.specs.Sizes.{same-bytes, read-some}
+use Rattle.theorem.specs.Trace.{read-ends, count-ends}
 use Rattle.digits.specs.Digits.{hex}
-use Rattle.text.specs.Text.{line, dash, pairText}
+use Rattle.text.specs.Text.{line, dash, pairText, shown}
 use Rattle.laying.specs.Laid.{Lays}
 use Rattle.laying.specs.Laws.{lays-as}
 use Rattle.digits.specs.Laws.{hex-size}
-use Rattle.text.specs.Laws.{pair-most}
+use Rattle.text.specs.Laws.{shown-refused, shown-row, shown-counts, pair-most}
 use Rattle.progress.specs.Replying.{Replied, Replies}
 
 -- A read hands out a row's bytes at most
 
-row-most : (v : Option Refusal) (bs : List ℕ) (n : ℕ) → length bs ≤ n → length (rowOf (unless v refused (row bs))) ≤ n
+row-most : (v : Option Refusal) (bs : List ℕ) (n : ℕ) → length bs ≤ n → length (unless v refused (row bs) .bytes) ≤ n
 row-most none bs n l = l
 row-most (some r) bs n l = omega arith
 
@@ -35,7 +35,7 @@ bytes-most : (width : ℕ) (places : List ℕ) (p : ℕ) → length (bytesAt wid
 unfolding bytesAt
 bytes-most width places p = omega (arith, length-take width (drop (beginsAt width p) places))
 
-answer-most : (z : Records) (places : List ℕ) (tag r : ℕ) → length (rowOf (readAnswer z places tag r)) ≤ z .size .width
+answer-most : (z : Records) (places : List ℕ) (tag r : ℕ) → length (readAnswer z places tag r .bytes) ≤ z .size .width
 unfolding readAnswer rowOfTag
 answer-most z places tag r =
     let w = z .size .width in
@@ -45,44 +45,47 @@ pub read-most : (z : Records) (places : List ℕ) (tag r n : ℕ) {bs : List ℕ
 read-most z places tag r n {bs = bs} e = by-cases (decLe (length bs) (z .size .width))
     (λ l. l)
     (λ f.
-    let bad : Sound z → ⊥ = λ s. f (rw (e .sound s .handed) (answer-most z places tag r)) in
-    let nothing : bs ≡ [] = e .unsound bad .handed in
+    let bad : Sound z → ⊥ = λ s. f (rw (same-bytes (e .sound s)) (answer-most z places tag r)) in
+    let nothing : bs ≡ [] = same-bytes (e .unsound bad) in
     rw nothing (omega arith))
 
 -- Calls and their lines
 
 module _ {k from to : ℕ} {out out′ : List ℕ} where
-  pub count-refused : (z : Records) {n w u a : ℕ} → w ≡ n → w ≢ 0 → CountEnds z n u a → Lays out from (line k w dash) out′ to → Replies z count k out from z out′ to
-  count-refused z {n = n} {w = w} {u = u} {a = a} e f s l = λ places. record {
-    hands = handed n [] u a;
+  pub count-refused : (z : Records) {n w u a : ℕ} → w ≡ n → w ≢ 0 → CountEnds z n u a → Lays out from (line k w dash) out′ to → Replies z (one count) k out from z out′ to
+  count-refused z {n = n} {u = u} {a = a} e f s l = let d = shown-refused (counted n u a) (λ z. f (e ∙ z)) in λ places. record {
+    hands = counted n u a;
     ends = count-ends s;
-    lays = lays-as (rw (sym e, ne-eqb w 0 f)) l;
-    short = rw (sym e, ne-eqb w 0 f) (omega arith);
+    lays = lays-as (rw (e, d)) l;
+    short = rw d (omega arith);
   }
 
-  pub count-replied : (z : Records) {n w u a : ℕ} → w ≡ n → w ≡ 0 → CountEnds z n u a → Lays out from (line k 0 (pairText u a)) out′ to → Replies z count k out from z out′ to
-  count-replied z {n = n} {w = w} {u = u} {a = a} e f s l = λ places. record {
-    hands = handed n [] u a;
+  pub count-replied : (z : Records) {n w u a : ℕ} → w ≡ n → w ≡ 0 → CountEnds z n u a → Lays out from (line k 0 (pairText u a)) out′ to → Replies z (one count) k out from z out′ to
+  count-replied z {n = n} {u = u} {a = a} e f s l = let g = sym e ∙ f in let d : shown (counted n u a) ≡ pairText u a = rw g (shown-counts u a) in λ places. record {
+    hands = counted n u a;
     ends = count-ends s;
-    lays = lays-as (rw (sym e, eq-eqb w 0 f, f)) l;
-    short = rw (sym e, eq-eqb w 0 f) (omega (arith, pair-most u a));
+    lays = lays-as (rw (d, g)) l;
+    short = rw d (omega (arith, pair-most u a));
   }
 
   -- a read, of row q
   pub read-refused : (z : Records) (places : List ℕ) {tag q x n w : ℕ} {bs : List ℕ} → x ≡ q → w ≡ n → w ≢ 0 → ReadEnds z places tag x n bs → Lays out from (line k w dash) out′ to
-      → Replied z places (read tag q) k out from z places out′ to
-  read-refused z places {n = n} {w = w} {bs = bs} h e f s l = rw (sym h) (record {
-    hands = handed n bs 0 0;
+      → Replied z places (one (read tag q)) k out from z places out′ to
+  read-refused z places {n = n} {bs = bs} h e f s l = let d = shown-refused (handed n bs []) (λ z. f (e ∙ z)) in rw (sym h) (record {
+    hands = handed n bs [];
     ends = read-ends s;
-    lays = lays-as (rw (sym e, ne-eqb w 0 f)) l;
-    short = rw (sym e, ne-eqb w 0 f) (omega arith);
+    lays = lays-as (rw (e, d)) l;
+    short = rw d (omega arith);
   })
 
   pub read-replied : (z : Records) (places : List ℕ) {tag q x n w : ℕ} {bs : List ℕ} → x ≡ q → w ≡ n → w ≡ 0 → ReadEnds z places tag x n bs → Lays out from (line k 0 (hex bs)) out′ to
-      → Replied z places (read tag q) k out from z places out′ to
-  read-replied z places {tag = tag} {x = x} {n = n} {w = w} {bs = bs} h e f s l = rw (sym h) (record {
-    hands = handed n bs 0 0;
-    ends = read-ends s;
-    lays = lays-as (rw (sym e, eq-eqb w 0 f, f)) l;
-    short = rw (sym e, eq-eqb w 0 f) (omega (arith, hex-size bs, read-most z places tag x n s));
-  })
+      → Replied z places (one (read tag q)) k out from z places out′ to
+  read-replied z places {tag = tag} {x = x} {n = n} {bs = bs} h e f s l =
+      let g = sym e ∙ f in
+      let d : shown (handed n bs []) ≡ hex bs = rw g (shown-row bs (read-some z places tag x s g)) in
+      rw (sym h) (record {
+        hands = handed n bs [];
+        ends = read-ends s;
+        lays = lays-as (rw (d, g)) l;
+        short = rw d (omega (arith, hex-size bs, read-most z places tag x n s));
+      })

@@ -1,5 +1,5 @@
 // A command's call that asks, with its line: what was counted or read, or a dash if it was refused.
-ghost use Rattle.model.specs.Call.{read, count};
+ghost use Rattle.model.specs.Call.{read, count, one};
 ghost use Rattle.progress.specs.Replying.{lineRoom, Room, Answered, Answers};
 use measures::Row;
 use progress::Progress;
@@ -7,7 +7,7 @@ use progress::Progress;
 // A count, and its line.
 pub fn count<'a>(run: Progress, node: &'a [u8], row: &'a [u16], out: &mut [u8]) -> Progress
     requires { ⌜ Room run 20 (now out) ⌝ }
-    ensures { λ r. ⌜ Answers run (now (node .entry)) (now (row .entry)) count (now (out .entry)) r (now (node .entry)) (now (row .entry)) (now (out .exit)) ⌝ }
+    ensures { λ r. ⌜ Answers run (now (node .entry)) (now (row .entry)) (one count) (now (out .entry)) r (now (node .entry)) (now (row .entry)) (now (out .exit)) ⌝ }
 {
     let tree = run.tree;
     let c = counting::count(run.size, tree, node, row);
@@ -31,7 +31,7 @@ pub fn read<'a>(
     out: &mut [u8],
 ) -> Progress
     requires { ⌜ Room run (lineRoom (run .size .width)) (now out) ⌝ }
-    ensures { λ w. ⌜ Answered run (now (node .entry)) (now (row .entry)) (now (places .entry)) (read tag r) (now (out .entry))
+    ensures { λ w. ⌜ Answered run (now (node .entry)) (now (row .entry)) (now (places .entry)) (one (read tag r)) (now (out .entry))
         w (now (node .entry)) (now (row .entry)) (now (places .entry)) (now (out .exit)) ⌝ }
 {
     let tree = run.tree;

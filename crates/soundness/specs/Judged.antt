@@ -4,8 +4,8 @@ use mathlib.Core.Option.{Option, none, some}
 use Prim.Native.Nat.{ℕ}
 use Rattle.records.specs.Records.{Records}
 use Rattle.records.specs.Sound.{Sound}
-use Rattle.answers.specs.Answers.{Refusal, done, refused, number, numberOf}
-use Rattle.answers.specs.Tests.{unless}
+use Rattle.answers.specs.Answers.{Refusal, number}
+use Rattle.answers.specs.Tests.{unless, verdictNumber}
 
 -- what holds of a call on sound records, and on others
 pub record Judged (z : Records) (Yes No : Type 0) : Type 0 where
@@ -14,7 +14,7 @@ pub record Judged (z : Records) (Yes No : Type 0) : Type 0 where
 
 -- a verdict's number is answered; what may change is as it was if refused, and new if not
 pub record Leaves {A : Type 0} (verdict : Option Refusal) (old new : A) (answer : ℕ) (got : A) : Type 0 where
-  pub numbered : answer ≡ numberOf (unless verdict refused done)
+  pub numbered : answer ≡ verdictNumber verdict
   pub left : got ≡ unless verdict (λ r. old) new
 
 -- with the judgement known, one side is left

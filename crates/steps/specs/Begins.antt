@@ -2,7 +2,7 @@
 use mathlib.Core.Path.{_≡_, refl, sym, _∙_, ap}
 use mathlib.Core.Bool.{not}
 use mathlib.Core.List.{List}
-use mathlib.Core.Option.{Option, none}
+use mathlib.Core.Option.{none}
 use Prim.Native.Nat.{ℕ, _-_, _*_}
 use lib.Dec.{eqb}
 use lib.ListN.{length, replicate, length-replicate}
@@ -11,9 +11,9 @@ use Rattle.measures.specs.declared.Size.{Size}
 use Rattle.measures.specs.Measures.{Within}
 use Rattle.trees.specs.declared.Tree.{Tree}
 use Rattle.records.specs.Records.{Records, recordsOf}
-use Rattle.answers.specs.Answers.{Refusal, bad-size, bad-length, done, refused, numberOf}
+use Rattle.answers.specs.Answers.{bad-size, bad-length}
 use Rattle.model.specs.Model.{opened}
-use Rattle.answers.specs.Tests.{openTests, inMeasure, unless}
+use Rattle.answers.specs.Tests.{openTests, inMeasure, verdictNumber}
 use Rattle.answers.specs.Laws.{refusal-passed, measure-in}
 use Rattle.edits.specs.Edits.{Whole}
 use Rattle.opening.specs.Opening.{firstTree, openVerdict, Opening}
@@ -52,7 +52,7 @@ open-call z places node row number tree places′ node′ row′ o v =
     let p : places′ ≡ zeros (length places) = rw v at (o .bytes) in
     let k : node′ ≡ zeros n = rw v at (o .nodes) in
     let r : row′ ≡ zeros n = (rw v at (o .rows)) ∙ ap zeros (f .rows ∙ sym (f .nodes)) in (
-      o .answers ∙ ap (λ (x : Option Refusal). numberOf (unless x refused done)) v,
+      o .answers ∙ ap verdictNumber v,
       rw (t, p, k, r, f .bytes) (record {
         store = record { sound = first-sound z (f .within) n (f .nodes); size = length-replicate (z .places * z .width) 0 };
         whole = first-whole;

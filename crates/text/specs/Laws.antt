@@ -1,16 +1,48 @@
--- How long the parts of a line are, and each laid from its parts. Assumes nothing.
-use mathlib.Core.Path.{_≡_}
-use mathlib.Core.List.{List, _++_}
+-- What is shown of an answer; how long the parts of a line are, and each laid from its parts. Assumes nothing.
+use mathlib.Core.Path.{_≡_, refl, ap}
+use mathlib.Core.Logic.{_≢_}
+use mathlib.Core.Bool.{Bool, true, false, cond}
+use mathlib.Core.List.{List, [], _∷_, _++_}
 use Prim.Native.Nat.{ℕ, _+_, _≤_}
 use native.Mathlib.Omega.{arith}
+use lib.Dec.{eqb}
 use lib.ListN.{length, length-append}
-use Rattle.digits.specs.Digits.{decimal}
+use borrow.Author.Tests.{ne-eqb}
+use Rattle.answers.specs.Answers.{Answer, handed, row, counts}
+use Rattle.digits.specs.Digits.{decimal, hex}
 use Rattle.digits.specs.Laws.{decimal-most}
-use Rattle.text.specs.Text.{head, line, pairText, space, newline}
+use Rattle.text.specs.Text.{head, line, pairText, shown, answerLine, spaced, space, dash, newline}
 use Rattle.laying.specs.Laid.{Lays}
 use Rattle.laying.specs.Laws.{lays-then}
 
+-- What is shown
+
+pub shown-refused : (a : Answer) → a .number ≢ 0 → shown a ≡ dash
+unfolding shown
+shown-refused a e = rw (ne-eqb (a .number) 0 e)
+
+pub shown-plain : (n : ℕ) → shown (handed n [] []) ≡ dash
+unfolding shown spaced
+shown-plain n = go (eqb n 0)
+  where
+    go : (b : Bool) → cond b dash dash ≡ dash
+    go true = refl
+    go false = refl
+
+pub shown-row : (bs : List ℕ) → bs ≢ [] → shown (row bs) ≡ hex bs
+unfolding shown spaced
+shown-row [] e = absurd (e refl)
+shown-row (b ∷ bs) e = refl
+
+pub shown-counts : (used snapshots : ℕ) → shown (counts used snapshots) ≡ pairText used snapshots
+unfolding shown spaced pairText
+shown-counts used snapshots = refl
+
 -- Lines
+
+pub answer-line : (k : ℕ) {h a : Answer} → h ≡ a → line k (h .number) (shown h) ≡ answerLine k a
+unfolding answerLine
+answer-line k e = ap (answerLine k) e
 
 pub head-laid : (k n : ℕ) {b : List ℕ} {p : ℕ} {a₁ a₂ a₃ a : List ℕ} {to₁ to₂ to₃ to : ℕ}
     → Lays b p (decimal k) a₁ to₁ → Lays a₁ to₁ space a₂ to₂ → Lays a₂ to₂ (decimal n) a₃ to₃ → Lays a₃ to₃ space a to → Lays b p (head k n) a to

@@ -1,7 +1,9 @@
 -- The lines of an output, as bytes (SPEC 9.2). Definitions only. Assumes nothing.
-use mathlib.Core.List.{List, [], _∷_, _++_}
+use mathlib.Core.Bool.{cond}
+use mathlib.Core.List.{List, [], _∷_, _++_, map}
 use Prim.Native.Nat.{ℕ}
-use Rattle.answers.specs.Answers.{Answer, done, row, counts, refused, numberOf}
+use lib.Dec.{eqb}
+use Rattle.answers.specs.Answers.{Answer}
 use Rattle.digits.specs.Digits.{decimal, hex}
 
 -- the codes of a space, a dash and a line's end
@@ -24,13 +26,21 @@ line k n shown = head k n ++ (shown ++ newline)
 unfoldable pub pairText : ℕ → ℕ → List ℕ
 pairText used snapshots = decimal used ++ (space ++ decimal snapshots)
 
--- what is shown of an answer: a row, two counts, else a dash
+-- pieces with a space between each two; a dash for none
+unfoldable pub spaced : List (List ℕ) → List ℕ
+spaced [] = dash
+spaced (p ∷ []) = p
+spaced (p ∷ q ∷ rest) = p ++ (space ++ spaced (q ∷ rest))
+
+-- a row in hexadecimal digits, if there is one
+abbrev pub rowPieces : List ℕ → List (List ℕ)
+rowPieces [] = []
+rowPieces (b ∷ bs) = hex (b ∷ bs) ∷ []
+
+-- what is shown of an answer: its row and its numbers, and a dash if it has neither or is a refusal
 unfoldable pub shown : Answer → List ℕ
-shown done = dash
-shown (row bs) = hex bs
-shown (counts used snapshots) = pairText used snapshots
-shown (refused r) = dash
+shown a = cond (eqb (a .number) 0) (spaced (rowPieces (a .bytes) ++ map decimal (a .numbers))) dash
 
 -- the line of an answer
 unfoldable pub answerLine : ℕ → Answer → List ℕ
-answerLine k a = line k (numberOf a) (shown a)
+answerLine k a = line k (a .number) (shown a)

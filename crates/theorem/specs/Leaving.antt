@@ -1,15 +1,15 @@
 -- What a list of calls leaves is what `leftBy` says of it, to the last byte. Assumes nothing.
-use mathlib.Core.Path.{_≡_, refl, _∙_}
+use mathlib.Core.Path.{_≡_, refl, _∙_, ap}
 use mathlib.Core.List.{List}
 use mathlib.Core.Option.{Option, none, some}
 use Prim.Native.Nat.{ℕ}
 use Rattle.trees.specs.declared.Tree.{Tree}
 use Rattle.records.specs.Records.{Records}
 use Rattle.records.specs.Sound.{Sound}
-use Rattle.answers.specs.Answers.{Refusal}
+use Rattle.answers.specs.Answers.{Refusal, Answer}
 use Rattle.answers.specs.Tests.{unless}
 use Rattle.answers.specs.Laws.{unless-made}
-use Rattle.model.specs.Call.{Call, write}
+use Rattle.model.specs.Call.{write, Call, one}
 use Rattle.model.specs.Model.{Model}
 use Rattle.edits.specs.Edits.{withTree}
 use Rattle.takes.specs.Taking.{snapshotVerdict, snapshotTree}
@@ -19,11 +19,11 @@ use Rattle.deletes.specs.Deleting.{Left, left, deleteVerdict, deleted}
 use Rattle.reads.specs.Reads.{rowOfTag}
 use Rattle.wrote.specs.Wrote.{written-as-read}
 use Rattle.steps.specs.Calls.{Runs}
-use Rattle.theorem.specs.Trace.{State, state, stateHeld, stateLeft, Handed, Call-ends, snapshot-ends, read-ends, write-ends, delete-ends, count-ends, Trace, over, then, leaves, leftBy}
+use Rattle.theorem.specs.Trace.{State, state, stateHeld, stateLeft, Call-ends, snapshot-ends, read-ends, write-ends, border-ends, delete-ends, count-ends, Trace, over, then, leaves, leftBy}
 use Rattle.theorem.specs.Theorem.{one-call}
 
 -- one call on sound records
-pub call-leaves : {z : Records} {places : List ℕ} {c : Call} {h : Handed} {s′ : State} → Sound z → Call-ends z places c h s′ → s′ ≡ leaves (state z places) c
+pub call-leaves : {z : Records} {places : List ℕ} {c : Call} {h : Answer} {s′ : State} → Sound z → Call-ends z places c h s′ → s′ ≡ leaves (state z places) c
 unfolding leaves
 call-leaves {z} {places} k (snapshot-ends {source = source} {new = new} e) =
     rw (e .sound k .left) (unless-made (λ (t : Tree). state (withTree z t) places) (snapshotVerdict z source new) (z .tree) (snapshotTree (z .tree) source new))
@@ -33,9 +33,10 @@ call-leaves {z} {places} k (write-ends {tag = tag} {r = r} {bs = bs} e) =
 call-leaves {z} {places} k (delete-ends {tag = tag} e) =
     rw (e .sound k .left) (unless-made (λ (l : Left). stateLeft (z .size) l places) (deleteVerdict z tag) (left (z .tree) (z .node) (z .row)) (deleted z tag))
 call-leaves k (count-ends e) = refl
+call-leaves {z} k (border-ends e) = ap (stateHeld (z .size)) (e .sound k .left)
 
 -- a write of the bytes that the version reads there
-pub leaves-untouched : (s : State) (tag r : ℕ) (bs : List ℕ) → bs ≡ rowOfTag (s .records) (s .places) tag r → leaves s (write tag r bs) ≡ s
+pub leaves-untouched : (s : State) (tag r : ℕ) (bs : List ℕ) → bs ≡ rowOfTag (s .records) (s .places) tag r → leaves s (one (write tag r bs)) ≡ s
 unfolding leaves rowOfTag
 leaves-untouched s tag r bs e = rw (written-as-read (s .records) (s .places) tag r bs e) (go (writeVerdict (s .records) (s .places) tag r bs))
   where
@@ -44,7 +45,7 @@ leaves-untouched s tag r bs e = rw (written-as-read (s .records) (s .places) tag
     go (some x) = refl
 
 -- any list of calls on a store that runs
-pub list-leaves : {s s′ : State} {m : Model} {cs : List Call} {hs : List Handed} → Runs (s .records) (s .places) m → Trace s cs hs s′ → s′ ≡ leftBy s cs
+pub list-leaves : {s s′ : State} {m : Model} {cs : List Call} {hs : List Answer} → Runs (s .records) (s .places) m → Trace s cs hs s′ → s′ ≡ leftBy s cs
 unfolding leftBy
 list-leaves run over = refl
 list-leaves run (then {cs = cs} k rest) = list-leaves (one-call run k .2) rest ∙ rw (call-leaves (run .store .sound) k)

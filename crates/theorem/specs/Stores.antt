@@ -2,22 +2,22 @@
 use mathlib.Core.Path.{_≡_, sym, _∙_, ap}
 use mathlib.Core.Logic.{_≢_, _↔_}
 use mathlib.Core.Bool.{true, false}
-use mathlib.Core.List.{List, [], _∷_, map}
+use mathlib.Core.List.{List, [], _∷_}
 use Prim.Native.Nat.{ℕ, _≤_, _<_}
 use lib.ListN.{length}
 use Rattle.measures.specs.declared.Size.{Size}
 use Rattle.records.specs.Records.{Records, table, lives, tagPlace}
 use Rattle.trees.specs.Trees.{snapshots, used}
-use Rattle.answers.specs.Answers.{numberOf}
-use Rattle.model.specs.Call.{Call, snapshot, write, delete}
-use Rattle.model.specs.Model.{Model, answer, after, answers, final}
+use Rattle.answers.specs.Answers.{Answer}
+use Rattle.model.specs.Call.{snapshot, write, delete, Call, one, border}
+use Rattle.model.specs.Model.{Model, reply, next, answers, final}
 use Rattle.copies.specs.Copies.{alive, snapshotsAlive, shared}
 use Rattle.copies.specs.Counting.{shared-yes, shared-some}
 use Rattle.edits.specs.Edits.{Whole}
 use Rattle.reads.specs.Reads.{rowOfTag}
 use Rattle.view.specs.View.{view, Store, started}
 use Rattle.view.specs.Viewed.{view-snapshots}
-use Rattle.theorem.specs.Trace.{State, Handed, Call-ends, Trace, over, then, handedOf, Equals}
+use Rattle.theorem.specs.Trace.{State, Call-ends, Trace, over, then, Equals}
 use Rattle.theorem.specs.Theorem.{theorem-sound}
 use Rattle.theorem.specs.Leaving.{call-leaves, leaves-untouched}
 use Rattle.theorem.specs.Consequences as model
@@ -32,14 +32,14 @@ abbrev pub Full : Records → Type 0
 Full z = z .size .places ≤ used (table z)
 
 -- 20 is not among the numbers
-abbrev pub NoneUnsound : List Handed → Type 0
+abbrev pub NoneUnsound : List Answer → Type 0
 NoneUnsound [] = Unit {0}
 NoneUnsound (h ∷ hs) = (h .number ≢ 20) × NoneUnsound hs
 
-none-unsound : (z : Size) (m : Model) (cs : List Call) → NoneUnsound (map handedOf (answers z m cs))
+none-unsound : (z : Size) (m : Model) (cs : List Call) → NoneUnsound (answers z m cs)
 unfolding answers
 none-unsound z m [] = tt
-none-unsound z m (c ∷ cs) = (model.never-unsound z m c, none-unsound z (after z m c) cs)
+none-unsound z m (c ∷ cs) = (model.never-unsound z m c, none-unsound z (next z m c) cs)
 
 -- a store and the model that starts with it
 module _ (s : State) (st : Store (s .records) (s .places)) (w : Whole (s .records .tree)) where
@@ -62,17 +62,14 @@ module _ (s : State) (st : Store (s .records) (s .places)) (w : Whole (s .record
   unfolding started view
   alive-snapshots = view-snapshots (s .records) (st .sound) (s .places)
 
-  -- one call: its number is the model's
-  numbered : {c : Call} {h : Handed} {s′ : State} → Call-ends (s .records) (s .places) c h s′ → h .number ≡ numberOf (answer (s .records .size) its c)
+  -- one call: what it hands out is the model's
+  answered : {c : Call} {h : Answer} {s′ : State} → Call-ends (s .records) (s .places) c h s′ → h ≡ reply (s .records .size) its c
   unfolding answers
-  numbered {c} {h} k =
-      let e = theorem-sound (s .records) (s .places) st w (then k over) .0 in
-      let f : h ≡ handedOf (answer (s .records .size) its c) = cc in
-      ap (λ (x : Handed). x .number) f
+  answered {c} {h} k = let e = theorem-sound (s .records) (s .places) st w (then k over) .0 in cc
 
 -- Any list of calls on a store
 
-module _ {s s′ : State} {cs : List Call} {hs : List Handed} (st : Store (s .records) (s .places)) (w : Whole (s .records .tree)) (t : Trace s cs hs s′) where
+module _ {s s′ : State} {cs : List Call} {hs : List Answer} (st : Store (s .records) (s .places)) (w : Whole (s .records .tree)) (t : Trace s cs hs s′) where
   ends : Equals (s .records .size) s′ (final (s .records .size) (its s st w) cs)
   ends = theorem-sound (s .records) (s .places) st w t .1
 
@@ -101,9 +98,9 @@ module _ {s s′ : State} {cs : List Call} {hs : List Handed} (st : Store (s .re
       ∙ sym (equals s st w .rows u r b l)
 
   -- After it, one more call
-  module _ {h : Handed} {s″ : State} where
+  module _ {h : Answer} {s″ : State} where
     -- a write that passes its earlier tests gets 24 exactly if its row is shared, every place is in use and its bytes are others, and is else accepted
-    module _ {tag r : ℕ} {bs : List ℕ} (k : Call-ends (s′ .records) (s′ .places) (write tag r bs) h s″)
+    module _ {tag r : ℕ} {bs : List ℕ} (k : Call-ends (s′ .records) (s′ .places) (one (write tag r bs)) h s″)
         (long : length bs ≡ s′ .records .size .width) (low : r < s′ .records .size .rows) (a : lives (s′ .records) tag ≡ true) where
       its-alive : alive (its s′ stays-store stays-whole .snapshots) tag ≡ true
       its-alive = sym (equals s′ stays-store stays-whole .living tag) ∙ a
@@ -112,38 +109,45 @@ module _ {s s′ : State} {cs : List Call} {hs : List Handed} (st : Store (s .re
       its-row = equals s′ stays-store stays-whole .rows tag r its-alive low
 
       pub write-full : (h .number ≡ 24) ↔ (Shares (s′ .records) tag r × Full (s′ .records) × (bs ≢ rowOfTag (s′ .records) (s′ .places) tag r))
+      unfolding reply
       write-full =
           let m = its s′ stays-store stays-whole in
           let f = model.write-full (s′ .records .size) m tag r bs long low its-alive in
           let x = shares-iff s′ stays-store stays-whole tag r a low in
           let u = equals s′ stays-store stays-whole .inUse in
-          rw (numbered s′ stays-store stays-whole k, its-row) (
+          rw (answered s′ stays-store stays-whole k, its-row) (
             λ e. (x .1 (f .0 e .0), rw u (f .0 e .1), f .0 e .2),
             λ y. f .1 (x .0 (y .0), rw u at (y .1), y .2),
           )
 
       pub write-accepted : (Shares (s′ .records) tag r × Full (s′ .records) × (bs ≢ rowOfTag (s′ .records) (s′ .places) tag r) → ⊥) → h .number ≡ 0
+      unfolding reply
       write-accepted n =
           let m = its s′ stays-store stays-whole in
           let x = shares-iff s′ stays-store stays-whole tag r a low in
           let u = equals s′ stays-store stays-whole .inUse in
-          numbered s′ stays-store stays-whole k
+          ap (λ (x : Answer). x .number) (answered s′ stays-store stays-whole k)
           ∙ model.write-accepted (s′ .records .size) m tag r bs long low its-alive (λ y. n (x .1 (y .0), rw u (y .1), λ e. y .2 (e ∙ its-row)))
 
       -- a write of the bytes that the version reads there is accepted and leaves every record and every byte as it was
       pub write-untouched : bs ≡ rowOfTag (s′ .records) (s′ .places) tag r → (h .number ≡ 0) × (s″ ≡ s′)
       write-untouched e = (write-accepted (λ y. y .2 e), call-leaves (stays-store .sound) k ∙ leaves-untouched s′ tag r bs e)
 
+    -- a border that is answered with 0 has done every row
+    pub border-all : {tag : ℕ} {rows bytes : List ℕ} → Call-ends (s′ .records) (s′ .places) (border tag rows bytes) h s″ → h .number ≡ 0 → h .numbers ≡ length rows ∷ []
+    border-all {tag} {rows} {bytes} k = rw (answered s′ stays-store stays-whole k) (model.border-all (s′ .records .size) (its s′ stays-store stays-whole) tag rows bytes)
+
     -- a snapshot is accepted exactly if its tag is neither 0 nor alive, its source lives and fewer than 64 are alive
-    pub snapshot-accepted : {source new : ℕ} → Call-ends (s′ .records) (s′ .places) (snapshot source new) h s″
+    pub snapshot-accepted : {source new : ℕ} → Call-ends (s′ .records) (s′ .places) (one (snapshot source new)) h s″
         → (h .number ≡ 0) ↔ ((new ≢ 0) × (lives (s′ .records) source ≡ true) × (lives (s′ .records) new ≡ false) × (snapshots (s′ .records .tree) < 64))
+    unfolding reply
     snapshot-accepted {source} {new} k =
         let e = equals s′ stays-store stays-whole in
-        rw (numbered s′ stays-store stays-whole k, e .living source, e .living new, sym (alive-snapshots s′ stays-store stays-whole))
+        rw (answered s′ stays-store stays-whole k, e .living source, e .living new, sym (alive-snapshots s′ stays-store stays-whole))
         (model.snapshot-accepted (s′ .records .size) (its s′ stays-store stays-whole) source new)
 
 -- a delete leaves every other version alive, and leaves its rows
-pub delete-others : {s s′ : State} {tag : ℕ} {h : Handed} → Store (s .records) (s .places) → Whole (s .records .tree) → Call-ends (s .records) (s .places) (delete tag) h s′
+pub delete-others : {s s′ : State} {tag : ℕ} {h : Answer} → Store (s .records) (s .places) → Whole (s .records .tree) → Call-ends (s .records) (s .places) (one (delete tag)) h s′
     → (u r : ℕ) → tag ≢ u → lives (s .records) u ≡ true → r < s .records .size .rows
     → (lives (s′ .records) u ≡ true) × (rowOfTag (s′ .records) (s′ .places) u r ≡ rowOfTag (s .records) (s .places) u r)
 delete-others st w k u r d a l = (lives-on st w (then k over) u (d, tt) ∙ a, reads-as-left st w (then k over) u r (d, tt) a l)

@@ -1,17 +1,16 @@
 -- THE THEOREM (the client's third demand, SPEC 10): any list of calls on a store answers as the reference model, and leaves what the model has.
 -- It is one statement over the whole list, for a store fresh from its opening and for sound records from elsewhere alike. Assumes nothing.
 use mathlib.Core.Path.{_≡_, refl, sym, _∙_, ap, ap₂}
-use mathlib.Core.List.{List, [], _∷_, map}
-use mathlib.Core.Option.{Option, none, some}
+use mathlib.Core.List.{List, _∷_}
+use mathlib.Core.Option.{none}
 use Prim.Native.Nat.{ℕ}
 use Rattle.measures.specs.declared.Size.{Size}
 use Rattle.trees.specs.declared.Tree.{Tree}
 use Rattle.records.specs.Records.{Records, recordsOf}
-use Rattle.model.specs.Call.{Call, snapshot, read, write, delete, count}
-use Rattle.answers.specs.Answers.{Refusal, Answer, done, row, refused, rowOf, usedOf, snapshotsOf}
-use Rattle.model.specs.Model.{Model, opened, verdict, answer, after, answers, final, accepted}
+use Rattle.model.specs.Call.{Call}
+use Rattle.answers.specs.Answers.{Answer}
+use Rattle.model.specs.Model.{Model, opened, reply, next, answers, final}
 use Rattle.copies.specs.Copies.{placesUsed}
-use Rattle.answers.specs.Tests.{unless}
 use Rattle.agreement.specs.Steps.{used-agree}
 use Rattle.edits.specs.Edits.{Whole}
 use Rattle.opening.specs.Opening.{openVerdict, Opening}
@@ -19,69 +18,32 @@ use Rattle.reads.specs.Reads.{rowOfTag}
 use Rattle.view.specs.View.{view, Store, started}
 use Rattle.view.specs.Viewed.{view-alive, view-used}
 use Rattle.steps.specs.Calls.{Runs, read-call, count-call, snapshot-call, write-call, delete-call}
+use Rattle.steps.specs.Bordered.{border-call}
 use Rattle.steps.specs.Begins.{open-call, start-call}
-use Rattle.theorem.specs.Trace.{State, state, Handed, handed, Call-ends, snapshot-ends, read-ends, write-ends, delete-ends, count-ends, Trace, over, then, handedOf, Equals}
-
-handed-same : {n n′ : ℕ} {b b′ : List ℕ} {u u′ a a′ : ℕ} → n ≡ n′ → b ≡ b′ → u ≡ u′ → a ≡ a′ → handed n b u a ≡ handed n′ b′ u′ a′
-handed-same p q r s = λ i. handed (p i) (q i) (r i) (s i)
-
--- an answer without a row, and without counts
-no-row : (v : Option Refusal) (a : Answer) → rowOf a ≡ [] → rowOf (unless v refused a) ≡ []
-no-row none a e = e
-no-row (some r) a e = refl
-
-no-counts : (v : Option Refusal) (a : Answer) → (usedOf a ≡ 0) × (snapshotsOf a ≡ 0) → (usedOf (unless v refused a) ≡ 0) × (snapshotsOf (unless v refused a) ≡ 0)
-no-counts none a e = e
-no-counts (some r) a e = (refl, refl)
-
--- a call that hands out its number alone; a read hands out no counts, a count no row
-module _ (z : Size) (m : Model) where
-  Plain : Call → Type 0
-  Plain c = (rowOf (answer z m c) ≡ []) × (usedOf (answer z m c) ≡ 0) × (snapshotsOf (answer z m c) ≡ 0)
-
-  plain-snapshot : (s t : ℕ) → Plain (snapshot s t)
-  unfolding Plain answer accepted
-  plain-snapshot s t = let n = no-counts (verdict z m (snapshot s t)) done (refl, refl) in (no-row (verdict z m (snapshot s t)) done refl, n .0, n .1)
-
-  plain-write : (t r : ℕ) (bs : List ℕ) → Plain (write t r bs)
-  unfolding Plain answer accepted
-  plain-write t r bs = let n = no-counts (verdict z m (write t r bs)) done (refl, refl) in (no-row (verdict z m (write t r bs)) done refl, n .0, n .1)
-
-  plain-delete : (t : ℕ) → Plain (delete t)
-  unfolding Plain answer accepted
-  plain-delete t = let n = no-counts (verdict z m (delete t)) done (refl, refl) in (no-row (verdict z m (delete t)) done refl, n .0, n .1)
-
-  read-plain : (t r : ℕ) → (usedOf (answer z m (read t r)) ≡ 0) × (snapshotsOf (answer z m (read t r)) ≡ 0)
-  unfolding answer accepted
-  read-plain t r = no-counts (verdict z m (read t r)) (row (m .rows .content (t, r))) (refl, refl)
-
-  count-plain : rowOf (answer z m count) ≡ []
-  unfolding answer accepted
-  count-plain = no-row (verdict z m count) _ refl
+use Rattle.theorem.specs.Trace.{State, state, Call-ends, snapshot-ends, read-ends, write-ends, border-ends, delete-ends, count-ends, Trace, over, then, Equals}
 
 -- one call: the sound side of its promise applies, and its step theorem gives the rest
-pub one-call : {z : Records} {places : List ℕ} {m : Model} {c : Call} {h : Handed} {s′ : State} → Runs z places m → Call-ends z places c h s′
-    → (h ≡ handedOf (answer (z .size) m c)) × (s′ .records .size ≡ z .size) × Runs (s′ .records) (s′ .places) (after (z .size) m c)
-unfolding Plain
+pub one-call : {z : Records} {places : List ℕ} {m : Model} {c : Call} {h : Answer} {s′ : State} → Runs z places m → Call-ends z places c h s′
+    → (h ≡ reply (z .size) m c) × (s′ .records .size ≡ z .size) × Runs (s′ .records) (s′ .places) (next (z .size) m c)
+unfolding reply next
 one-call {z} {places} {m} run (snapshot-ends {source = source} {new = new} {number = number} {tree = tree} e) =
-    let (n, r) = snapshot-call z places m run source new number tree (e .sound (run .store .sound)) in
-    let p = plain-snapshot (z .size) m source new in
-    (handed-same n (sym (p .0)) (sym (p .1)) (sym (p .2)), refl, r)
+    let (h, u) = snapshot-call z places m run source new number tree (e .sound (run .store .sound)) in
+    (h, refl, u)
 one-call {z} {places} {m} run (read-ends {tag = tag} {r = r} {number = number} {bytes = bytes} e) =
-    let (n, b, u) = read-call z places m run tag r number bytes (e .sound (run .store .sound)) in
-    let p = read-plain (z .size) m tag r in
-    (handed-same n b (sym (p .0)) (sym (p .1)), refl, u)
+    let (h, u) = read-call z places m run tag r number bytes (e .sound (run .store .sound)) in
+    (h, refl, u)
 one-call {z} {places} {m} run (write-ends {tag = tag} {r = r} {number = number} {bs = bs} {got = got} e) =
-    let (n, u) = write-call z places m run tag r number bs got (e .sound (run .store .sound)) in
-    let p = plain-write (z .size) m tag r bs in
-    (handed-same n (sym (p .0)) (sym (p .1)) (sym (p .2)), refl, u)
+    let (h, u) = write-call z places m run tag r number bs got (e .sound (run .store .sound)) in
+    (h, refl, u)
+one-call {z} {places} {m} run (border-ends {tag = tag} {number = number} {done = done} {rows = rows} {bytes = bytes} {got = got} e) =
+    let (h, u) = border-call z places m run tag rows bytes number done got (e .sound (run .store .sound)) in
+    (h, refl, u)
 one-call {z} {places} {m} run (delete-ends {tag = tag} {number = number} {got = got} e) =
-    let (n, u) = delete-call z places m run tag number got (e .sound (run .store .sound)) in
-    let p = plain-delete (z .size) m tag in
-    (handed-same n (sym (p .0)) (sym (p .1)) (sym (p .2)), refl, u)
+    let (h, u) = delete-call z places m run tag number got (e .sound (run .store .sound)) in
+    (h, refl, u)
 one-call {z} {places} {m} run (count-ends {number = number} {inUse = inUse} {alive = alive} e) =
-    let (n, i, l, u) = count-call z places m run number inUse alive (e .sound (run .store .sound)) in
-    (handed-same n (sym (count-plain (z .size) m)) i l, refl, u)
+    let (h, u) = count-call z places m run number inUse alive (e .sound (run .store .sound)) in
+    (h, refl, u)
 
 -- a store that runs equals its model
 pub runs-equal : (size : Size) (s : State) (m : Model) → s .records .size ≡ size → Runs (s .records) (s .places) m → Equals size s m
@@ -101,24 +63,24 @@ runs-equal size s m e run =
 
 -- any list of calls
 module _ (size : Size) where
-  pub any-list : {s s′ : State} {m : Model} {cs : List Call} {hs : List Handed} → s .records .size ≡ size → Runs (s .records) (s .places) m → Trace s cs hs s′
-      → (hs ≡ map handedOf (answers size m cs)) × Equals size s′ (final size m cs)
+  pub any-list : {s s′ : State} {m : Model} {cs : List Call} {hs : List Answer} → s .records .size ≡ size → Runs (s .records) (s .places) m → Trace s cs hs s′
+      → (hs ≡ answers size m cs) × Equals size s′ (final size m cs)
   unfolding answers final
   any-list e run over = (refl, runs-equal size _ _ e run)
   any-list {m = m} e run (then {c = c} k rest) =
       let (h, z, next) = one-call run k in
       let (hs, last) = any-list (z ∙ e) (rw e at next) rest in
-      (ap₂ _∷_ (h ∙ ap (λ (x : Size). handedOf (answer x m c)) e) hs, last)
+      (ap₂ _∷_ (h ∙ ap (λ (x : Size). reply x m c) e) hs, last)
 
 -- From an accepted opening: the lists are the lent places and the two halves of the table, before and after it
 pub theorem-opened : (size : Size) (places nodes rows : List ℕ) (number : ℕ) (tree : Tree) (places′ nodes′ rows′ : List ℕ)
     → Opening size places nodes rows number tree places′ nodes′ rows′ → openVerdict size places nodes rows ≡ none
-    → {cs : List Call} {hs : List Handed} {s′ : State} → Trace (state (recordsOf size tree nodes′ rows′) places′) cs hs s′
-    → (hs ≡ map handedOf (answers size (opened size) cs)) × Equals size s′ (final size (opened size) cs)
+    → {cs : List Call} {hs : List Answer} {s′ : State} → Trace (state (recordsOf size tree nodes′ rows′) places′) cs hs s′
+    → (hs ≡ answers size (opened size) cs) × Equals size s′ (final size (opened size) cs)
 theorem-opened size places nodes rows number tree places′ nodes′ rows′ o v t = any-list size refl (open-call size places nodes rows number tree places′ nodes′ rows′ o v .1) t
 
 -- From sound records with P × B bytes of places, whose arrays are whole
 pub theorem-sound : (z : Records) (places : List ℕ) → Store z places → Whole (z .tree)
-    → {cs : List Call} {hs : List Handed} {s′ : State} → Trace (state z places) cs hs s′
-    → (hs ≡ map handedOf (answers (z .size) (started z places) cs)) × Equals (z .size) s′ (final (z .size) (started z places) cs)
+    → {cs : List Call} {hs : List Answer} {s′ : State} → Trace (state z places) cs hs s′
+    → (hs ≡ answers (z .size) (started z places) cs) × Equals (z .size) s′ (final (z .size) (started z places) cs)
 theorem-sound z places st w t = any-list (z .size) refl (start-call z places st w) t

@@ -8,18 +8,19 @@ use Rattle.measures.specs.declared.Size.{Size}
 use Rattle.trees.specs.declared.Tree.{Tree}
 use Rattle.records.specs.Records.{Records, recordsOf, table, lives, tagPlace}
 use Rattle.trees.specs.Trees.{used}
-use Rattle.model.specs.Call.{Call, snapshot, read, write, delete, count}
-use Rattle.answers.specs.Answers.{Answer, numberOf, rowOf, usedOf, snapshotsOf}
+use Rattle.model.specs.Call.{snapshot, read, write, delete, count, Call, one, border}
+use Rattle.answers.specs.Answers.{Answer, handed}
 use Rattle.answers.specs.Tests.{unless}
 use Rattle.model.specs.Model.{Model}
 use Rattle.copies.specs.Copies.{alive, placesUsed}
-use Rattle.counting.specs.Counting.{CountEnds}
+use Rattle.counting.specs.Counting.{counted, CountEnds}
 use Rattle.reads.specs.Reads.{ReadEnds, rowOfTag}
 use Rattle.edits.specs.Edits.{withTree, Whole}
 use Rattle.view.specs.View.{Store}
 use Rattle.takes.specs.Taking.{snapshotVerdict, snapshotTree, SnapshotEnds}
 use Rattle.owning.specs.Owning.{Held}
 use Rattle.writes.specs.Writing.{writeVerdict, written, WriteEnds}
+use Rattle.borders.specs.Bordering.{bordered, BorderEnds}
 use Rattle.deletes.specs.Deleting.{Left, deleteVerdict, deleted, DeleteEnds}
 
 -- the records and the bytes of the places, as one call leaves them for the next
@@ -37,50 +38,39 @@ stateHeld size h = state (recordsOf size (h .tree) (h .node) (h .row)) (h .place
 abbrev pub stateLeft : Size → Left → List ℕ → State
 stateLeft size l places = state (recordsOf size (l .tree) (l .node) (l .row)) places
 
--- what a call hands its caller: a number, a row (else none), two counts (else zero)
-pub record Handed : Type 0 where
-  pub number : ℕ
-  pub bytes : List ℕ
-  pub inUse : ℕ
-  pub alive : ℕ
-
-abbrev pub handed : ℕ → List ℕ → ℕ → ℕ → Handed
-handed number bytes inUse alive = record { number = number; bytes = bytes; inUse = inUse; alive = alive }
-
--- one call on a state, what it hands out, and the state it leaves: exactly what the `ensures` of snapshots::snapshot, queries::read,
--- writing::write, deleting::delete and counting::count say, with nothing in between; of a read, all but which part of the places it hands out
-pub data Call-ends (z : Records) (places : List ℕ) : Call → Handed → State → Type 0 where
+-- one call on a state, what it hands out, and the state it leaves: exactly what the `ensures` of snapshots::snapshot, queries::read, writing::write,
+-- bordering::border, deleting::delete and counting::count say, with nothing in between; of a read, all but which part of the places it hands out
+pub data Call-ends (z : Records) (places : List ℕ) : Call → Answer → State → Type 0 where
   snapshot-ends : {source new number : ℕ} {tree : Tree} → SnapshotEnds z source new number tree
-      → Call-ends z places (snapshot source new) (handed number [] 0 0) (state (withTree z tree) places)
-  read-ends : {tag r number : ℕ} {bytes : List ℕ} → ReadEnds z places tag r number bytes → Call-ends z places (read tag r) (handed number bytes 0 0) (state z places)
+      → Call-ends z places (one (snapshot source new)) (handed number [] []) (state (withTree z tree) places)
+  read-ends : {tag r number : ℕ} {bytes : List ℕ} → ReadEnds z places tag r number bytes → Call-ends z places (one (read tag r)) (handed number bytes []) (state z places)
   write-ends : {tag r number : ℕ} {bs : List ℕ} {got : Held} → WriteEnds z places tag r bs number got
-      → Call-ends z places (write tag r bs) (handed number [] 0 0) (stateHeld (z .size) got)
+      → Call-ends z places (one (write tag r bs)) (handed number [] []) (stateHeld (z .size) got)
+  border-ends : {tag number done : ℕ} {rows bytes : List ℕ} {got : Held} → BorderEnds z places tag rows bytes number done got
+      → Call-ends z places (border tag rows bytes) (handed number [] (done ∷ [])) (stateHeld (z .size) got)
   delete-ends : {tag number : ℕ} {got : Left} → DeleteEnds z tag number got
-      → Call-ends z places (delete tag) (handed number [] 0 0) (stateLeft (z .size) got places)
-  count-ends : {number inUse alive : ℕ} → CountEnds z number inUse alive → Call-ends z places count (handed number [] inUse alive) (state z places)
+      → Call-ends z places (one (delete tag)) (handed number [] []) (stateLeft (z .size) got places)
+  count-ends : {number inUse alive : ℕ} → CountEnds z number inUse alive → Call-ends z places (one count) (counted number inUse alive) (state z places)
 
 -- a list of calls, each given what the one before left, refused or not
-pub data Trace : State → List Call → List Handed → State → Type 0 where
+pub data Trace : State → List Call → List Answer → State → Type 0 where
   over : {s : State} → Trace s [] [] s
-  then : {s u s′ : State} {c : Call} {h : Handed} {cs : List Call} {hs : List Handed} → Call-ends (s .records) (s .places) c h u → Trace u cs hs s′ → Trace s (c ∷ cs) (h ∷ hs) s′
+  then : {s u s′ : State} {c : Call} {h : Answer} {cs : List Call} {hs : List Answer} → Call-ends (s .records) (s .places) c h u → Trace u cs hs s′ → Trace s (c ∷ cs) (h ∷ hs) s′
 
--- What a list of calls leaves, outright: a call that a test refuses leaves the state as it was
+-- What a list of calls leaves, outright: a call that a test refuses leaves the state as it was, and a border what its rows leave
 
 unfoldable pub leaves : State → Call → State
-leaves s (snapshot source new) =
+leaves s (one (snapshot source new)) =
     unless (snapshotVerdict (s .records) source new) (λ x. s) (state (withTree (s .records) (snapshotTree (s .records .tree) source new)) (s .places))
-leaves s (read tag r) = s
-leaves s (write tag r bs) = unless (writeVerdict (s .records) (s .places) tag r bs) (λ x. s) (stateHeld (s .records .size) (written (s .records) (s .places) tag r bs))
-leaves s (delete tag) = unless (deleteVerdict (s .records) tag) (λ x. s) (stateLeft (s .records .size) (deleted (s .records) tag) (s .places))
-leaves s count = s
+leaves s (one (read tag r)) = s
+leaves s (one (write tag r bs)) = unless (writeVerdict (s .records) (s .places) tag r bs) (λ x. s) (stateHeld (s .records .size) (written (s .records) (s .places) tag r bs))
+leaves s (one (delete tag)) = unless (deleteVerdict (s .records) tag) (λ x. s) (stateLeft (s .records .size) (deleted (s .records) tag) (s .places))
+leaves s (one count) = s
+leaves s (border tag rows bytes) = stateHeld (s .records .size) (bordered (s .records) (s .places) tag rows bytes .left)
 
 unfoldable pub leftBy : State → List Call → State
 leftBy s [] = s
 leftBy s (c ∷ cs) = leftBy (leaves s c) cs
-
--- what the reference model hands out for an answer
-abbrev pub handedOf : Answer → Handed
-handedOf a = handed (numberOf a) (rowOf a) (usedOf a) (snapshotsOf a)
 
 -- a store as the model has it: sound records of the size that they began with, and as many bytes as that asks for; the same tags live; every row
 -- of every living version reads the model's bytes; two versions read a row from one place exactly if they have one mark there; and as many places

@@ -14,7 +14,7 @@ use trees::Tree;
 use unsharing::Written;
 
 // A write on sound records, its lengths right. Refusals: 3, 21, 24.
-fn write_row(
+pub fn write_row(
     size: Size,
     tree: Tree,
     node: &mut [u8],

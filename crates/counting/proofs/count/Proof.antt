@@ -1,7 +1,8 @@
 -- `counting::count` meets its contract. Assumes nothing.
 use borrow.Author.Needs.{needs}
-use mathlib.Core.Path.{refl}
+use mathlib.Core.Path.{refl, ap₂}
 use Rattle.soundness.specs.Parts.{few-places}
+use Rattle.answers.specs.Answers.{counts}
 use Rattle.records.specs.Sound.{Sound}
 use Rattle.soundness.specs.Judged.{judged-sound, judged-unsound}
 use Rattle.records.specs.Records.{recordsOf}
@@ -16,7 +17,7 @@ sound-requires : tie.Need-sound-requires
 sound-requires c κs = search needs
 
 returns : tie.Need-returns
-returns c = judged-unsound (failed (c .before .sound .result) (c .before .sound .ensures) (c .if1 .taken)) (record { numbered = refl; counted = refl; living = refl })
+returns c = judged-unsound (failed (c .before .sound .result) (c .before .sound .ensures) (c .if1 .taken)) refl
 
 used-requires : tie.Need-used-requires
 used-requires c κs = few-places _ (judged c)
@@ -27,7 +28,7 @@ snapshots-requires c κs = search needs
 returns-2 : tie.Need-returns-2
 returns-2 c =
     let u = c .before .before .before .before .before in
-    judged-sound (judged (u .before)) (record { numbered = refl; counted = u .used .ensures; living = c .snapshots .ensures })
+    judged-sound (judged (u .before)) (ap₂ counts (u .used .ensures) (c .snapshots .ensures))
 
 pub count-spec : {M : Type 1} → statement M
 count-spec = tie.close (tie.spec sound-requires returns used-requires snapshots-requires returns-2)

@@ -10,7 +10,7 @@ fits-requires : tie.Need-fits-requires
 fits-requires c κs = search needs
 
 returns : tie.Need-returns
-returns c = host-unfit (failed (c .before .fits2 .result) (c .before .fits2 .ensures) (c .if1 .taken)) (record { numbered = refl; counted = refl; living = refl })
+returns c = host-unfit (failed (c .before .fits2 .result) (c .before .fits2 .ensures) (c .if1 .taken)) refl
 
 entries-requires : tie.Need-entries-requires
 entries-requires c κs = passed (c .before .fits2 .result) (c .before .fits2 .ensures) (c .if1 .left)

@@ -1,7 +1,8 @@
 -- `host_read::read_in` meets its contract. Assumes nothing.
 use borrow.Author.Needs.{needs}
 use Rattle.records.specs.Records.{recordsOf}
-use Rattle.host_read.specs.Laws.{read-size, read-host}
+use Rattle.reads.specs.Sizes.{read-size}
+use Rattle.host_read.specs.Laws.{read-host}
 use Rattle.host_read.proofs.read_in.Statement.{statement}
 use Rattle.host_read.proofs.read_in.Tie as tie
 

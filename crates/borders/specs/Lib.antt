@@ -1,0 +1,3 @@
+pub mod Bordering
+pub mod BorderingLaws
+pub mod BorderingWays
