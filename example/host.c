@@ -7,7 +7,7 @@
 #include <string.h>
 
 enum { ROWS = 4, WIDTH = 8, PLACES = 6 };
-enum { ROW = 2, TAG = 7 };
+enum { ROW = 2, TAG = 7, BORDER = 3 };
 
 static uint8_t records[ROWSTORE_RECORDS_SIZE(ROWS, PLACES)];
 static uint8_t places[ROWSTORE_PLACES_SIZE(WIDTH, PLACES)];
@@ -31,21 +31,41 @@ static void write_row(uint16_t tag, uint8_t byte) {
          (unsigned)byte);
 }
 
-static void read_row(uint16_t tag, uint8_t byte) {
+static void read_row(uint16_t tag, size_t row, uint8_t byte) {
   uint8_t due[WIDTH];
   uint8_t out[WIDTH];
   memset(due, byte, sizeof due);
   expect("read",
-         rowstore_read(records, sizeof records, places, sizeof places, tag, ROW,
+         rowstore_read(records, sizeof records, places, sizeof places, tag, row,
                        out, sizeof out),
          ROWSTORE_OK);
-  printf("read: version %u, row %d:", (unsigned)tag, ROW);
+  printf("read: version %u, row %zu:", (unsigned)tag, row);
   for (size_t i = 0; i < sizeof out; i++) {
     printf(" %02x", (unsigned)out[i]);
   }
   printf("\n");
   if (memcmp(out, due, sizeof out) != 0) {
     fprintf(stderr, "read: expected %02x in every byte\n", (unsigned)byte);
+    exit(EXIT_FAILURE);
+  }
+}
+
+/* Rows 0, 1 and 3 with one call, each full of a byte of its own. */
+static void write_border(uint16_t tag, uint8_t due, size_t done_due) {
+  static const uint16_t rows[BORDER] = {0, 1, 3};
+  uint8_t bytes[BORDER * WIDTH];
+  size_t done;
+  for (size_t i = 0; i < BORDER; i++) {
+    memset(bytes + i * WIDTH, 0xd0 + rows[i], WIDTH);
+  }
+  expect("border",
+         rowstore_border(records, sizeof records, places, sizeof places, tag,
+                         rows, BORDER, bytes, sizeof bytes, &done),
+         due);
+  printf("border: version %u, rows 0, 1 and 3, answer %u, rows done: %zu\n",
+         (unsigned)tag, (unsigned)due, done);
+  if (done != done_due) {
+    fprintf(stderr, "border: expected %zu rows done\n", done_due);
     exit(EXIT_FAILURE);
   }
 }
@@ -103,15 +123,29 @@ int main(void) {
 
   /* The origin and the snapshot share the row, so it takes a place more. */
   write_row(ROWSTORE_ORIGIN, 0xb2);
-  read_row(ROWSTORE_ORIGIN, 0xb2);
-  read_row(TAG, 0xa1);
+  read_row(ROWSTORE_ORIGIN, ROW, 0xb2);
+  read_row(TAG, ROW, 0xa1);
   count(5, 1);
 
   refused_write();
 
+  /* One place is free: row 0 is written, row 1 has none, row 3 has no turn. */
+  write_border(TAG, ROWSTORE_PLACES_FULL, 1);
+  read_row(TAG, 0, 0xd0);
+  read_row(TAG, 1, 0);
+  count(6, 1);
+
   expect("delete", rowstore_delete(records, sizeof records, TAG), ROWSTORE_OK);
   printf("delete: version %d\n", TAG);
-  read_row(ROWSTORE_ORIGIN, 0xb2);
+  read_row(ROWSTORE_ORIGIN, ROW, 0xb2);
+  count(4, 0);
+
+  /* Rows that nobody shares are written where they are. */
+  write_border(ROWSTORE_ORIGIN, ROWSTORE_OK, BORDER);
+  read_row(ROWSTORE_ORIGIN, 0, 0xd0);
+  read_row(ROWSTORE_ORIGIN, 1, 0xd1);
+  read_row(ROWSTORE_ORIGIN, ROW, 0xb2);
+  read_row(ROWSTORE_ORIGIN, 3, 0xd3);
   count(4, 0);
   return EXIT_SUCCESS;
 }

@@ -17,10 +17,10 @@ enum { UNKNOWN = 99 };
 /* From docs/LAYOUT.md: where the nodes' states start, and a ghost's state. */
 enum { STATES = 6, NODES = 128, GHOST = 2 };
 
-enum call { OPEN, SNAPSHOT, READ, WRITE, DELETE, COUNT, FILL_KNOWN };
+enum call { OPEN, SNAPSHOT, READ, WRITE, BORDER, DELETE, COUNT, FILL_KNOWN };
 
-static const char *const names[] = {"open",  "snapshot", "read",
-                                    "write", "delete",   "count"};
+static const char *const names[] = {"open",   "snapshot", "read", "write",
+                                    "border", "delete",   "count"};
 
 struct figure {
   size_t bytes;
@@ -34,9 +34,11 @@ static struct figure figures[COUNT + 1];
 
 /* The store, and the arguments of the next call. */
 static uint8_t records[MOST_RECORDS], places[MOST_PLACES];
-static uint8_t written[ROWSTORE_MAX_WIDTH], out[ROWSTORE_MAX_WIDTH];
-static size_t rows, width, count, row, used, snapshots;
-static size_t records_len, places_len, row_len;
+static uint8_t written[(ROWSTORE_MAX_BORDER + 1) * ROWSTORE_MAX_WIDTH];
+static uint8_t out[ROWSTORE_MAX_WIDTH];
+static uint16_t border[ROWSTORE_MAX_BORDER + 1];
+static size_t rows, width, count, row, used, snapshots, done;
+static size_t records_len, places_len, row_len, border_len, border_bytes;
 static uint16_t tag, source;
 static enum call next;
 static uint8_t answer;
@@ -74,6 +76,10 @@ static void make_call(void) {
   case WRITE:
     answer = rowstore_write(records, records_len, places, places_len, tag, row,
                             written, row_len);
+    break;
+  case BORDER:
+    answer = rowstore_border(records, records_len, places, places_len, tag,
+                             border, border_len, written, border_bytes, &done);
     break;
   case DELETE:
     answer = rowstore_delete(records, records_len, tag);
@@ -154,6 +160,23 @@ static void put(uint16_t of, size_t at, uint8_t byte, uint8_t due) {
   made(WRITE, due);
 }
 
+/* The next border: the first so many rows again and again, all of one byte. */
+static void line_up(size_t different, size_t len, uint8_t byte) {
+  for (size_t i = 0; i < len; i++) {
+    border[i] = (uint16_t)(i % different);
+  }
+  border_len = len;
+  border_bytes = len * width;
+  memset(written, byte, sizeof written);
+}
+
+static void put_border(uint16_t of, uint8_t due, size_t done_due) {
+  tag = of;
+  done = PAINT;
+  made(BORDER, due);
+  expect("rows done", done, done_due);
+}
+
 static void get(uint16_t of, size_t at, uint8_t byte, uint8_t due) {
   tag = of;
   row = at;
@@ -228,6 +251,33 @@ static void ways(void) {
   counted(rows, 0, 0);
 }
 
+/* Borders of shared rows: of a snapshot, which leaves a ghost, and of the
+ * origin, whose old rows are saved; then of rows that are not shared. The last
+ * row is left as it is. */
+static void borders(void) {
+  size_t most = ROWSTORE_MAX_BORDER;
+  size_t moved = rows <= most ? rows - 1 : most;
+  take(ROWSTORE_ORIGIN, 1, ROWSTORE_OK);
+  take(1, 2, ROWSTORE_OK);
+  line_up(moved, most, 0x81);
+  put_border(1, ROWSTORE_OK, most);
+  counted(rows + moved, 2, 1);
+  line_up(moved, most, 0x80);
+  put_border(ROWSTORE_ORIGIN, ROWSTORE_OK, most);
+  counted(rows + 2 * moved, 2, 1);
+  line_up(moved, most, 0x82);
+  put_border(2, ROWSTORE_OK, most);
+  line_up(moved, 0, 0);
+  put_border(2, ROWSTORE_OK, 0);
+  counted(rows + 2 * moved, 2, 1);
+  get(ROWSTORE_ORIGIN, moved - 1, 0x80, ROWSTORE_OK);
+  get(1, moved - 1, 0x81, ROWSTORE_OK);
+  get(2, moved - 1, 0x82, ROWSTORE_OK);
+  drop(2, ROWSTORE_OK);
+  drop(1, ROWSTORE_OK);
+  counted(rows, 0, 0);
+}
+
 /* A chain of 64 snapshots, then rows from the deepest up until every place is
  * in use: 63 ghosts, and so every node. */
 static void fill(size_t owned[ROWSTORE_MAX_SNAPSHOTS + 1]) {
@@ -263,6 +313,20 @@ static void refusals(void) {
   put(alive, 0, 1, ROWSTORE_BAD_LENGTH);
   get(alive, 0, 1, ROWSTORE_BAD_LENGTH);
   right_lengths();
+  line_up(1, ROWSTORE_MAX_BORDER + 1, 1);
+  put_border(alive, ROWSTORE_TOO_MANY_ROWS, 0);
+  /* Behind row 0, which has the bytes already, a shared row, then no row. */
+  line_up(1, 3, ROWSTORE_MAX_SNAPSHOTS);
+  border[1] = (uint16_t)last;
+  put_border(alive, ROWSTORE_PLACES_FULL, 1);
+  border[1] = (uint16_t)rows;
+  put_border(alive, ROWSTORE_BAD_ROW, 1);
+  put_border(UNKNOWN, ROWSTORE_UNKNOWN_TAG, 0);
+  places_len--;
+  put_border(alive, ROWSTORE_BAD_LENGTH, 0);
+  right_lengths();
+  border_bytes--;
+  put_border(alive, ROWSTORE_BAD_LENGTH, 0);
   take(ROWSTORE_ORIGIN, 0, ROWSTORE_ZERO_TAG);
   take(UNKNOWN, 1, ROWSTORE_UNKNOWN_TAG);
   take(ROWSTORE_ORIGIN, alive, ROWSTORE_TAG_ALIVE);
@@ -275,6 +339,7 @@ static void all_unsound(void) {
   take(ROWSTORE_ORIGIN, UNKNOWN, ROWSTORE_UNSOUND);
   get(ROWSTORE_ORIGIN, 0, 1, ROWSTORE_UNSOUND);
   put(ROWSTORE_ORIGIN, 0, 1, ROWSTORE_UNSOUND);
+  put_border(ROWSTORE_ORIGIN, ROWSTORE_UNSOUND, 0);
   drop(1, ROWSTORE_UNSOUND);
   made(COUNT, ROWSTORE_UNSOUND);
   expect("places in use", used, 0);
@@ -303,6 +368,9 @@ static void empty(const size_t owned[ROWSTORE_MAX_SNAPSHOTS + 1]) {
   put(ROWSTORE_ORIGIN, 0, 0x31, ROWSTORE_OK);
   get(ROWSTORE_MAX_SNAPSHOTS, 0, 0x30, ROWSTORE_OK);
   get(ROWSTORE_ORIGIN, 0, 0x31, ROWSTORE_OK);
+  line_up(1, ROWSTORE_MAX_BORDER, 0x32);
+  put_border(ROWSTORE_MAX_SNAPSHOTS, ROWSTORE_OK, ROWSTORE_MAX_BORDER);
+  get(ROWSTORE_MAX_SNAPSHOTS, 0, 0x32, ROWSTORE_OK);
   counted(left, alive, alive - 1);
   for (uint16_t i = 1; i <= ROWSTORE_MAX_SNAPSHOTS; i++) {
     /* The odd ones first, then the even ones. */
@@ -319,6 +387,7 @@ static void store(size_t l, size_t b, size_t p) {
   size_t owned[ROWSTORE_MAX_SNAPSHOTS + 1];
   openings(l, b, p);
   ways();
+  borders();
   fill(owned);
   refusals();
   unsound();

@@ -10,7 +10,7 @@
 #include <string.h>
 
 enum { THREADS = 4, ROUNDS = 100 };
-enum { ROWS = 4, WIDTH = 16, PLACES = 8, VERSIONS = 3 };
+enum { ROWS = 4, WIDTH = 16, PLACES = 8, VERSIONS = 3, BORDER = 2 };
 
 /* The stores lie side by side: the byte behind one is another thread's. */
 struct store {
@@ -75,6 +75,30 @@ static void write_row(struct store *s, struct copies *due, uint16_t tag,
   due->first[tag][row] = first;
 }
 
+/* Rows 0 and 1 with one call. */
+static uint8_t put_border(struct store *s, uint16_t tag, uint8_t first,
+                          size_t done_due) {
+  static const uint16_t rows[BORDER] = {0, 1};
+  uint8_t bytes[BORDER * WIDTH];
+  size_t done;
+  for (unsigned i = 0; i < BORDER; i++) {
+    fill(bytes + i * WIDTH, (uint8_t)(first + i));
+  }
+  uint8_t answer = rowstore_border(s->records, sizeof s->records, s->places,
+                                   sizeof s->places, tag, rows, BORDER, bytes,
+                                   sizeof bytes, &done);
+  expect("rows done", done, done_due);
+  return answer;
+}
+
+static void write_border(struct store *s, struct copies *due, uint16_t tag,
+                         uint8_t first) {
+  expect("border", put_border(s, tag, first, BORDER), ROWSTORE_OK);
+  for (unsigned i = 0; i < BORDER; i++) {
+    due->first[tag][i] = (uint8_t)(first + i);
+  }
+}
+
 static uint8_t get(const struct store *s, uint16_t tag, size_t row,
                    uint8_t out[WIDTH]) {
   return rowstore_read(s->records, sizeof s->records, s->places,
@@ -119,6 +143,7 @@ static void build(struct store *s, struct copies *due, unsigned seed) {
   write_row(s, due, ROWSTORE_ORIGIN, 1, first + 2);
   write_row(s, due, 2, 0, first + 3);
   write_row(s, due, 1, 1, first + 4);
+  write_border(s, due, 2, first + 5);
 }
 
 static void read_and_count(const struct store *s, const struct copies *due) {
@@ -139,6 +164,7 @@ static void take_down(struct store *s, const struct copies *due) {
   expect("snapshot of tag 1", rowstore_snapshot(s->records, len, 1, 3),
          ROWSTORE_UNKNOWN_TAG);
   expect("write of tag 1", put(s, 1, 0, 1), ROWSTORE_UNKNOWN_TAG);
+  expect("border of tag 1", put_border(s, 1, 1, 0), ROWSTORE_UNKNOWN_TAG);
   expect("read of tag 1", get(s, 1, 0, out), ROWSTORE_UNKNOWN_TAG);
   expect("delete of tag 1", rowstore_delete(s->records, len, 1),
          ROWSTORE_UNKNOWN_TAG);

@@ -1,7 +1,7 @@
 //! A store of full copies: every living version holds the bytes and a mark of each of its rows.
 
 use crate::layout::Measures;
-use crate::store::answer::*;
+use crate::store::{answer::*, MAX_BORDER};
 use std::collections::BTreeMap;
 
 /// A version's rows one after the other, and the mark of each.
@@ -89,6 +89,33 @@ impl Copies {
         version.bytes[stretch].copy_from_slice(bytes);
         version.marks[row] = mark;
         ACCEPTED
+    }
+
+    /// Writes row after row up to the first that is refused: the answer, and how many were written.
+    pub fn border(
+        &mut self,
+        places_len: usize,
+        tag: u16,
+        rows: &[u16],
+        bytes: &[u8],
+    ) -> (u8, usize) {
+        let Measures { width, .. } = self.measures;
+        if rows.len() > MAX_BORDER {
+            return (TOO_MANY_ROWS, 0);
+        }
+        if places_len != self.measures.places_len() || bytes.len() != rows.len() * width {
+            return (LENGTH, 0);
+        }
+        if !self.versions.contains_key(&tag) {
+            return (NO_VERSION, 0);
+        }
+        for (done, (&row, bytes)) in rows.iter().zip(bytes.chunks(width)).enumerate() {
+            let answer = self.write(places_len, tag, row.into(), bytes);
+            if answer != ACCEPTED {
+                return (answer, done);
+            }
+        }
+        (ACCEPTED, rows.len())
     }
 
     pub fn delete(&mut self, tag: u16) -> u8 {

@@ -2,7 +2,7 @@
 //! Records are judged where they lie, with one pass over the table and no heap.
 
 use crate::layout::*;
-use crate::store::{answer::*, Store};
+use crate::store::{answer::*, Store, MAX_BORDER};
 
 const MAX_SNAPSHOTS: u32 = 64;
 /// A node that has no rank.
@@ -11,6 +11,8 @@ const NO_RANK: u8 = 255;
 const NO_SLOT: u16 = 0x8000;
 /// No row at all, for calls that look none up.
 const NO_ROW: usize = usize::MAX;
+/// The rank of node 0's child: nothing but node 0 can rank above it.
+const ORIGIN_CHILD: usize = 1;
 
 /// The ranks that have an entry for a row, a bit for each.
 type Owners = [u8; NODES / 8];
@@ -72,32 +74,54 @@ impl Store for Plain {
 
     fn write(records: &mut [u8], places: &mut [u8], tag: u16, row: usize, bytes: &[u8]) -> u8 {
         let mut tree = Tree::new();
-        let sought = match tree.seek(records, places.len(), bytes.len(), tag, row) {
-            Err(refusal) => return refusal,
-            Ok(sought) => sought,
+        match tree.seek(records, places.len(), bytes.len(), tag, row) {
+            Err(refusal) => refusal,
+            Ok(mut sought) => tree.write(records, places, &mut sought, bytes),
+        }
+    }
+
+    fn border(
+        records: &mut [u8],
+        places: &mut [u8],
+        tag: u16,
+        rows: &[u16],
+        bytes: &[u8],
+    ) -> (u8, usize) {
+        let Some(measures) = fitting_measures(records) else {
+            return (UNSOUND, 0);
         };
-        let measures = sought.measures;
-        let mut place = sought.place;
-        if places[measures.stretch(place)] == *bytes {
-            return ACCEPTED;
-        }
-        if tree.others_read(sought.source, sought.version, sought.owners) {
-            let Some(entry) = free_entry(records) else {
-                return NO_PLACE;
+        let width = measures.width;
+        with_owners(measures.rows, |owners| {
+            let mut tree = Tree::new();
+            if !judge(&mut tree, records, owners) {
+                return (UNSOUND, 0);
+            }
+            if rows.len() > MAX_BORDER {
+                return (TOO_MANY_ROWS, 0);
+            }
+            if places.len() != measures.places_len() || bytes.len() != rows.len() * width {
+                return (LENGTH, 0);
+            }
+            let Some(node) = node_of(records, tag) else {
+                return (NO_VERSION, 0);
             };
-            let free = measures.rows + entry;
-            let owner = if sought.version == 0 {
-                // The snapshots that share the origin's row keep its old bytes.
-                places.copy_within(measures.stretch(place), free * measures.width);
-                tree.origin_child().expect("a shared row's reader")
-            } else {
-                place = free;
-                tree.new_owner(records, sought.version, sought.owners)
-            };
-            put_entry(records, entry, owner, row);
-        }
-        places[measures.stretch(place)].copy_from_slice(bytes);
-        ACCEPTED
+            let mut version = tree.rank[node] as usize;
+            for (done, (&row, bytes)) in rows.iter().zip(bytes.chunks(width)).enumerate() {
+                let row = row as usize;
+                let Some(set) = owners.get_mut(row) else {
+                    return (ROW, done);
+                };
+                let of_row = u128::from_le_bytes(*set);
+                let mut sought = tree.look_up(records, measures, version, row, of_row);
+                let answer = tree.write(records, places, &mut sought, bytes);
+                if answer != ACCEPTED {
+                    return (answer, done);
+                }
+                version = sought.version;
+                *set = sought.owners.to_le_bytes();
+            }
+            (ACCEPTED, rows.len())
+        })
     }
 
     fn delete(records: &mut [u8], tag: u16) -> u8 {
@@ -143,6 +167,7 @@ fn fitting_measures(records: &[u8]) -> Option<Measures> {
 /// A version's row, looked up in sound records; version and source are ranks.
 struct Sought {
     measures: Measures,
+    row: usize,
     /// The ranks that have an entry for the row.
     owners: u128,
     version: usize,
@@ -312,21 +337,26 @@ impl Tree {
         }
         let mut above = self.rank[at as usize];
         for &node in way[..len].iter().rev() {
-            let rank = self.count as u8;
-            self.node[rank as usize] = node;
-            self.above[rank as usize] = above;
-            self.children[above as usize] += 1;
-            self.rank[node as usize] = rank;
+            above = self.rank_last(node, above);
             if nodes.states[node as usize] == GHOST {
-                self.ghosts |= 1 << rank;
+                self.ghosts |= 1 << above;
             }
-            self.count += 1;
-            above = rank;
         }
         Some(())
     }
 
-    /// Looks a row up. Read and write test alike: records, lengths, row and tag, in this order.
+    /// Ranks a node behind all others; gives its rank.
+    fn rank_last(&mut self, node: u8, above: u8) -> u8 {
+        let rank = self.count as u8;
+        self.node[rank as usize] = node;
+        self.above[rank as usize] = above;
+        self.children[above as usize] += 1;
+        self.rank[node as usize] = rank;
+        self.count += 1;
+        rank
+    }
+
+    /// Finds a row. Read and write test alike: records, lengths, row and tag, in this order.
     fn seek(
         &mut self,
         records: &[u8],
@@ -344,15 +374,63 @@ impl Tree {
         }
         let node = node_of(records, tag).ok_or(NO_VERSION)?;
         let version = self.rank[node] as usize;
+        Ok(self.look_up(records, measures, version, row, owners))
+    }
+
+    /// Looks a row of the store up, for a version of sound records.
+    #[inline(always)]
+    fn look_up(
+        &self,
+        records: &[u8],
+        measures: Measures,
+        version: usize,
+        row: usize,
+        owners: u128,
+    ) -> Sought {
         let source = self.source(version, owners);
-        let place = self.place(records, source, row);
-        Ok(Sought {
+        Sought {
             measures,
+            row,
             owners,
             version,
             source,
-            place,
-        })
+            place: self.place(records, source, row),
+        }
+    }
+
+    /// Writes a row that was looked up; version and owners are afterwards those to go on with.
+    #[inline(always)]
+    fn write(
+        &mut self,
+        records: &mut [u8],
+        places: &mut [u8],
+        sought: &mut Sought,
+        bytes: &[u8],
+    ) -> u8 {
+        let measures = sought.measures;
+        let mut place = sought.place;
+        if places[measures.stretch(place)] == *bytes {
+            return ACCEPTED;
+        }
+        if self.others_read(sought.source, sought.version, sought.owners) {
+            let Some(entry) = free_entry(records) else {
+                return NO_PLACE;
+            };
+            let free = measures.rows + entry;
+            let owner = if sought.version == 0 {
+                // The snapshots that share the origin's row keep its old bytes.
+                places.copy_within(measures.stretch(place), free * measures.width);
+                ORIGIN_CHILD
+            } else {
+                place = free;
+                sought.version = self.new_owner(records, sought.version, sought.owners);
+                sought.version
+            };
+            put_entry(records, entry, self.node[owner] as usize, sought.row);
+            sought.owners |= 1 << owner;
+        }
+        places[measures.stretch(place)].copy_from_slice(bytes);
+        ACCEPTED
     }
 
     fn living(&self) -> u128 {
@@ -402,9 +480,8 @@ impl Tree {
         })
     }
 
-    /// The child of node 0: nothing but node 0 can rank above it.
     fn origin_child(&self) -> Option<usize> {
-        (self.count > 1).then_some(self.node[1] as usize)
+        (self.count > ORIGIN_CHILD).then_some(self.node[ORIGIN_CHILD] as usize)
     }
 
     /// The rank that gives a version its row: the nearest one that owns it, else node 0.
@@ -447,19 +524,20 @@ impl Tree {
         others
     }
 
-    /// The node for a snapshot's new entry: its own, unless versions below it read on through it.
+    /// The rank for a snapshot's new entry: its own, unless versions below it read on through it.
     /// For those the node is kept as a ghost, and the tag passes to a new child.
-    fn new_owner(&self, records: &mut [u8], version: usize, owners: u128) -> usize {
-        let node = self.node[version] as usize;
+    fn new_owner(&mut self, records: &mut [u8], version: usize, owners: u128) -> usize {
         if !self.others_read(version, version, owners) {
-            return node;
+            return version;
         }
+        let node = self.node[version] as usize;
         let child = empty_node(records);
         let tag = number(records, TAGS + 2 * node);
         put_node(records, child, ALIVE, node, tag);
         let parent = records[PARENTS + node] as usize;
         put_node(records, node, GHOST, parent, 0);
-        child
+        self.ghosts |= 1 << version;
+        self.rank_last(child as u8, version as u8) as usize
     }
 }
 

@@ -1,4 +1,4 @@
-//! The six calls on lent bytes, and the proved store behind them.
+//! The seven calls on lent bytes, and the proved store behind them.
 
 use crate::layout::Measures;
 
@@ -25,7 +25,12 @@ pub mod answer {
     pub const SNAPSHOTS: u8 = 23;
     /// A shared row, and no free place to move it to.
     pub const NO_PLACE: u8 = 24;
+    /// A border of more rows than one may have.
+    pub const TOO_MANY_ROWS: u8 = 25;
 }
+
+/// The most rows of a border.
+pub const MAX_BORDER: usize = 64;
 
 /// A store on lent bytes. Each call returns its answer number.
 pub trait Store {
@@ -38,6 +43,15 @@ pub trait Store {
     fn read(records: &[u8], places: &[u8], tag: u16, row: usize, out: &mut [u8]) -> u8;
 
     fn write(records: &mut [u8], places: &mut [u8], tag: u16, row: usize, bytes: &[u8]) -> u8;
+
+    /// Writes rows in their order up to the first that is refused: the answer, and the rows done.
+    fn border(
+        records: &mut [u8],
+        places: &mut [u8],
+        tag: u16,
+        rows: &[u16],
+        bytes: &[u8],
+    ) -> (u8, usize);
 
     fn delete(records: &mut [u8], tag: u16) -> u8;
 
@@ -84,6 +98,18 @@ mod linked {
             bytes: *const u8,
             bytes_len: usize,
         ) -> u8;
+        fn rowstore_border(
+            records: *mut u8,
+            records_len: usize,
+            places: *mut u8,
+            places_len: usize,
+            tag: u16,
+            rows: *const u16,
+            rows_len: usize,
+            bytes: *const u8,
+            bytes_len: usize,
+            done: *mut usize,
+        ) -> u8;
         fn rowstore_delete(records: *mut u8, records_len: usize, tag: u16) -> u8;
         fn rowstore_count(
             records: *const u8,
@@ -120,6 +146,24 @@ mod linked {
             let (p, p_len) = (places.as_mut_ptr(), places.len());
             let (b, b_len) = (bytes.as_ptr(), bytes.len());
             unsafe { rowstore_write(r, r_len, p, p_len, tag, row, b, b_len) }
+        }
+
+        fn border(
+            records: &mut [u8],
+            places: &mut [u8],
+            tag: u16,
+            rows: &[u16],
+            bytes: &[u8],
+        ) -> (u8, usize) {
+            // It must be set by the call.
+            let mut done = usize::MAX;
+            let (r, r_len) = (records.as_mut_ptr(), records.len());
+            let (p, p_len) = (places.as_mut_ptr(), places.len());
+            let (n, n_len) = (rows.as_ptr(), rows.len());
+            let (b, b_len) = (bytes.as_ptr(), bytes.len());
+            let answer =
+                unsafe { rowstore_border(r, r_len, p, p_len, tag, n, n_len, b, b_len, &mut done) };
+            (answer, done)
         }
 
         fn delete(records: &mut [u8], tag: u16) -> u8 {

@@ -10,6 +10,7 @@ use rowstore_host::dice::Dice;
 use rowstore_host::judge::place_of;
 use rowstore_host::layout::Measures;
 use rowstore_host::store::Store;
+use std::hint::black_box;
 
 const USUAL: Measures = Measures::of(4, 8, 6);
 
@@ -111,7 +112,7 @@ fn usual<S: Store>(title: &str) -> Trial<S> {
 }
 
 fn listed_cases<S: Store>() {
-    let cases: [fn() -> Tally; 9] = [
+    let cases: [fn() -> Tally; 14] = [
         rows_after_opening::<S>,
         tags_of_a_snapshot::<S>,
         write_above_a_reader::<S>,
@@ -121,10 +122,15 @@ fn listed_cases<S: Store>() {
         zeros_written_again::<S>,
         equal_bytes_in_a_full_store::<S>,
         equal_bytes_above_a_reader::<S>,
+        border_without_a_place::<S>,
+        border_without_a_row::<S>,
+        border_above_a_reader::<S>,
+        border_of_equal_bytes::<S>,
+        refused_borders::<S>,
     ];
     let title = format!("listed cases, {}", S::NAME);
     let tallies = cases.map(|case| case());
-    require_all(&title, &tallies, &[0, 3, 4, 21, 22, 23, 24]);
+    require_all(&title, &tallies, &[0, 2, 3, 4, 20, 21, 22, 23, 24, 25]);
 }
 
 /// Prints the tallies together, and requires that all the answers were seen.
@@ -242,6 +248,95 @@ fn equal_bytes_above_a_reader<S: Store>() -> Tally {
     // Other bytes make a ghost, since 8 reads the row too.
     assert_eq!(trial.write(7, 0, 0x71), 0);
     assert_eq!(trial.parsed().ghosts(), 1);
+    trial.tally
+}
+
+/// Two places are free: the third row has none, and it and those after it stay as they are.
+fn border_without_a_place<S: Store>() -> Tally {
+    let mut trial = usual::<S>("border without a place");
+    assert_eq!(trial.snapshot(0, 7), 0);
+    let rows = [(3, 0x73), (1, 0x71), (2, 0x72), (0, 0x70), (1, 0x11)];
+    assert_eq!(trial.border(7, &rows), (24, 2));
+    let bytes = [0, 0x71, 0, 0x73];
+    for (row, byte) in bytes.into_iter().enumerate() {
+        assert_eq!(trial.read(7, row), 0);
+        assert_eq!(trial.copies.row(7, row), [byte; 8]);
+        assert_eq!(trial.copies.row(0, row), [0; 8]);
+    }
+    assert_eq!(trial.copies.count(), (6, 1));
+    // What is there is written all the same, and so are rows that are not shared.
+    assert_eq!(trial.border(7, &[(2, 0), (3, 0x33), (0, 0)]), (0, 3));
+    assert_eq!(trial.border(0, &[(1, 0x01), (2, 0x02), (3, 0x03)]), (24, 1));
+    assert_eq!(trial.copies.row(0, 1), [0x01; 8]);
+    trial.tally
+}
+
+fn border_without_a_row<S: Store>() -> Tally {
+    let mut trial = usual::<S>("border without a row");
+    let rows = [(1, 0x01), (3, 0x03), (4, 0x04), (2, 0x02)];
+    assert_eq!(trial.border(0, &rows), (3, 2));
+    assert_eq!(trial.copies.row(0, 1), [0x01; 8]);
+    assert_eq!(trial.copies.row(0, 2), [0; 8]);
+    assert_eq!(trial.copies.row(0, 3), [0x03; 8]);
+    assert_eq!(trial.border(0, &[(u16::MAX, 1), (0, 1)]), (3, 0));
+    trial.tally
+}
+
+/// Only the first row that moves makes a ghost; the origin's border saves two rows.
+fn border_above_a_reader<S: Store>() -> Tally {
+    let measures = Measures { places: 8, ..USUAL };
+    let mut trial = Trial::<S>::open("border above a reader", measures, Care::Whole);
+    assert_eq!(trial.snapshot(0, 7), 0);
+    assert_eq!(trial.snapshot(7, 8), 0);
+    assert_eq!(trial.border(7, &[(0, 0x70), (1, 0x71), (0, 0x72)]), (0, 3));
+    assert_eq!(trial.parsed().ghosts(), 1);
+    assert_eq!(trial.copies.count(), (6, 2));
+    assert_eq!(trial.copies.row(7, 0), [0x72; 8]);
+    assert_eq!(trial.copies.row(8, 0), [0; 8]);
+    assert_eq!(trial.border(0, &[(2, 0x02), (3, 0x03)]), (0, 2));
+    assert_eq!(trial.copies.count(), (8, 2));
+    assert!(trial.copies.shares(7, 8, 2));
+    trial.tally
+}
+
+fn border_of_equal_bytes<S: Store>() -> Tally {
+    let mut trial = usual::<S>("border of equal bytes");
+    assert_eq!(trial.snapshot(0, 7), 0);
+    assert_eq!(trial.border(7, &[(0, 0), (1, 0), (2, 0), (3, 0)]), (0, 4));
+    assert_eq!(trial.copies.count(), (4, 1));
+    // The row moves at its second turn, and stays from then on.
+    assert_eq!(trial.border(7, &[(0, 0), (0, 1), (0, 1), (0, 0)]), (0, 4));
+    assert!(!trial.copies.shares(0, 7, 0));
+    assert_eq!(trial.copies.count(), (5, 1));
+    trial.tally
+}
+
+/// Each refusal of a whole border goes before the later ones; 64 rows are accepted, and none.
+fn refused_borders<S: Store>() -> Tally {
+    let mut trial = usual::<S>("refused borders");
+    let most: Vec<(u16, u8)> = (0..64).map(|i| (i % 4, i as u8)).collect();
+    assert_eq!(trial.border(0, &most), (0, 64));
+    assert_eq!(trial.copies.row(0, 3), [63; 8]);
+    assert_eq!(trial.border(0, &[]), (0, 0));
+    assert_eq!(trial.border(9, &[]), (21, 0));
+    assert_eq!(trial.border(9, &[(4, 1)]), (21, 0));
+    let more = [&most[..], &[(0, 1)]].concat();
+    assert_eq!(trial.border(0, &more), (25, 0));
+    // Lengths that are wrong: that of the places, or that of the bytes.
+    for (tag, rows, refusal) in [(0, &most, 2), (9, &most, 2), (9, &more, 25)] {
+        for (places_off, bytes_off) in [(1, 0), (-1, 0), (0, 1), (0, -1), (0, 8), (0, -8)] {
+            let mut border = trial.border_of(tag, rows);
+            if let Call::Border {
+                places_len, bytes, ..
+            } = &mut border
+            {
+                *places_len = places_len.wrapping_add_signed(places_off);
+                bytes.resize(bytes.len().wrapping_add_signed(bytes_off), 0);
+            }
+            assert_eq!(trial.call(&border), border.refused(refusal));
+            trial.misfit(&border, USUAL.records_len() - 1);
+        }
+    }
     trial.tally
 }
 
@@ -369,7 +464,10 @@ impl Lent {
     }
 }
 
-/// Records, places and a row at every remainder by 8, at the usual measures and at odd ones.
+/// The rows of the borders at any address.
+const BORDER: usize = 3;
+
+/// Records, places and rows at every remainder by 8, at the usual measures and at odd ones.
 fn any_address<S: Store>() {
     let odd = Measures::of(33, 37, 101);
     let mut calls = 0;
@@ -380,6 +478,7 @@ fn any_address<S: Store>() {
                     Lent::at(records_at, measures.records_len()),
                     Lent::at(places_at, measures.places_len()),
                     Lent::at((records_at + places_at) % 8, measures.width),
+                    Lent::at((records_at + places_at) % 8, BORDER * measures.width),
                 ];
                 calls += history_at::<S>(measures, buffers);
             }
@@ -389,8 +488,8 @@ fn any_address<S: Store>() {
 }
 
 /// A history in which every call is made, and after each the count and every row is compared.
-fn history_at<S: Store>(measures: Measures, mut buffers: [Lent; 3]) -> usize {
-    let [records, places, _] = &mut buffers;
+fn history_at<S: Store>(measures: Measures, mut buffers: [Lent; 4]) -> usize {
+    let [records, places, ..] = &mut buffers;
     let Measures { rows, width, .. } = measures;
     let places_len = measures.places_len();
     let opened = S::open(records.bytes(), places.bytes(), measures);
@@ -398,21 +497,30 @@ fn history_at<S: Store>(measures: Measures, mut buffers: [Lent; 3]) -> usize {
     let mut copies = Copies::open(measures.records_len(), places_len, measures)
         .expect("copies open as the store does");
     let mut dice = Dice::new(17);
-    let mut write = |tag, row| Call::Write {
+    let mut drawn = |rows: usize| dice.bytes(rows * width);
+    let write = |tag, row, bytes| Call::Write {
         tag,
         row,
         places_len,
-        bytes: dice.bytes(width),
+        bytes,
+    };
+    let border = |tag, rows: [usize; BORDER], bytes| Call::Border {
+        tag,
+        rows: rows.map(|row| row as u16).to_vec(),
+        places_len,
+        bytes,
     };
     let steps = [
         Call::Snapshot { source: 0, tag: 7 },
         Call::Snapshot { source: 7, tag: 8 },
-        write(7, 0),
-        write(0, rows - 1),
-        write(8, 1),
-        write(7, 0),
+        write(7, 0, drawn(1)),
+        write(0, rows - 1, drawn(1)),
+        write(8, 1, drawn(1)),
+        write(7, 0, drawn(1)),
+        border(0, [rows - 1, 0, 1], drawn(BORDER)),
         Call::Delete { tag: 7 },
-        write(8, 0),
+        write(8, 0, drawn(1)),
+        border(8, [0, rows, 1], drawn(BORDER)),
     ];
     let mut made = 0;
     for step in steps {
@@ -435,26 +543,46 @@ fn history_at<S: Store>(measures: Measures, mut buffers: [Lent; 3]) -> usize {
     made
 }
 
-fn compare_at<S: Store>(call: &Call, buffers: &mut [Lent; 3], copies: &mut Copies) {
-    let [records, places, row_bytes] = buffers;
-    let (lent, lent_places, lent_row) = (records.bytes(), places.bytes(), row_bytes.bytes());
+fn compare_at<S: Store>(call: &Call, buffers: &mut [Lent; 4], copies: &mut Copies) {
+    let remainders = buffers.each_ref().map(|lent| lent.remainder);
+    let [lent, lent_places, lent_row, lent_rows] = buffers.each_mut().map(Lent::bytes);
     let got = match call {
-        Call::Read { tag, row, .. } => Outcome {
-            answer: S::read(lent, lent_places, *tag, *row, lent_row),
-            row: lent_row.to_vec(),
-            counts: (0, 0),
-        },
+        Call::Read { tag, row, .. } => {
+            let answer = S::read(lent, lent_places, *tag, *row, lent_row);
+            Outcome {
+                row: lent_row.to_vec(),
+                ..Outcome::plain(answer)
+            }
+        }
         Call::Write {
             tag, row, bytes, ..
         } => {
             lent_row.copy_from_slice(bytes);
-            Outcome::plain(S::write(lent, lent_places, *tag, *row, lent_row))
+            let answer = S::write(lent, lent_places, *tag, *row, lent_row);
+            Outcome {
+                spoilt: black_box(lent_row) != bytes,
+                ..Outcome::plain(answer)
+            }
+        }
+        Call::Border {
+            tag, rows, bytes, ..
+        } => {
+            lent_rows.copy_from_slice(bytes);
+            // The row numbers at every even address.
+            let ahead = remainders[3] / 2;
+            let mut numbers = [&[0; 4][..ahead], rows].concat();
+            let lent_numbers = &numbers[ahead..];
+            let (answer, done) = S::border(lent, lent_places, *tag, lent_numbers, lent_rows);
+            let kept = black_box(&mut numbers)[ahead..] == *rows;
+            Outcome {
+                spoilt: !kept || black_box(lent_rows) != bytes,
+                ..Outcome::with_numbers(answer, &[done])
+            }
         }
         _ => call.on_store::<S>(lent, lent_places),
     };
-    let remainders = [&*records, &*places, &*row_bytes].map(|b| b.remainder);
     let wanted = call.on_copies(copies);
     assert_eq!(got, wanted, "{}: {call:?} at {remainders:?}", S::NAME);
-    let kept = records.kept_around() && places.kept_around() && row_bytes.kept_around();
+    let kept = buffers.iter().all(Lent::kept_around);
     assert!(kept, "{}: {call:?} at {remainders:?}, beyond", S::NAME);
 }

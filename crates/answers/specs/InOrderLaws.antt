@@ -2,7 +2,7 @@
 use mathlib.Core.Path.{_≡_, refl, sym, ap}
 use mathlib.Core.List.{List, [], _∷_}
 use mathlib.Core.Option.{Option, none, some}
-use Prim.Native.Nat.{ℕ, suc}
+use Prim.Native.Nat.{ℕ, suc, _<_}
 use native.Mathlib.Omega.{arith}
 use lib.ListN.{length}
 use Rattle.answers.specs.Answers.{Refusal}
@@ -59,6 +59,18 @@ module _ {S A : Type 0} (verdict : S → A → Option Refusal) (next : S → A �
           → unless v (stopped s) (oneMore (inOrder verdict next (next s a) xs)) .done ≡ suc (length xs)
       go none h k = ap suc (k h)
       go (some r) h k = let z : _≡_ {A = ℕ} 0 1 = cc in absurd (omega (arith, z))
+
+  -- where one is refused, it and those behind it are not
+  pub order-some : (s : S) (xs : List A) {r : Refusal} → inOrder verdict next s xs .refusal ≡ some r → inOrder verdict next s xs .done < length xs
+  unfolding inOrder
+  order-some s [] e = let z : _≡_ {A = ℕ} 0 1 = cc in absurd (omega (arith, z))
+  order-some s (a ∷ xs) {r} e = go (verdict s a) e (order-some (next s a) xs)
+    where
+      go : (v : Option Refusal) → unless v (stopped s) (oneMore (inOrder verdict next (next s a) xs)) .refusal ≡ some r
+          → (inOrder verdict next (next s a) xs .refusal ≡ some r → inOrder verdict next (next s a) xs .done < length xs)
+          → unless v (stopped s) (oneMore (inOrder verdict next (next s a) xs)) .done < suc (length xs)
+      go none h k = omega (arith, k h)
+      go (some x) h k = omega arith
 
 -- two ends with the same count and the same refusal
 pub record Alike {S T : Type 0} (R : S → T → Type 0) (x : Ended S) (y : Ended T) : Type 0 where

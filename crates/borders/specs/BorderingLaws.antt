@@ -1,15 +1,15 @@
 -- A border that has come to row i: what it has done, and what the next row makes of it. Assumes nothing.
 use mathlib.Core.Path.{_≡_, refl, sym, _∙_, ap}
-use mathlib.Core.List.{List, [], _∷_}
+use mathlib.Core.List.{List}
 use mathlib.Core.Option.{Option, none, some}
 use Prim.Native.Nat.{ℕ, suc, _+_, _-_, _*_, _≤_, _<_}
 use native.Mathlib.Omega.{arith}
-use native.Mathlib.Nat.{zero-add, zero-mul, suc-mul, mul-le-mul-left, mul-le-mul-right, le-trans}
-use lib.ListN.{length, take, drop, drop-of-length-le, length-drop}
-use lib.Seq.{drop-cons, drop-drop, length-take-le}
+use native.Mathlib.Nat.{zero-add, mul-le-mul-left, mul-le-mul-right, le-trans}
+use lib.ListN.{length, take, drop, length-drop}
+use lib.Seq.{length-take-le}
 use Rattle.basics.specs.Decide.{at}
 use Rattle.measures.specs.declared.Size.{Size}
-use Rattle.measures.specs.Measures.{rowsWith}
+use Rattle.measures.specs.Rows.{rowsFrom, rows-all, rows-over, rows-next}
 use Rattle.records.specs.Records.{recordsOf}
 use Rattle.answers.specs.Answers.{Refusal}
 use Rattle.answers.specs.Laws.{verdict-none}
@@ -21,23 +21,6 @@ use Rattle.owning.specs.Owning.{Held}
 use Rattle.intact.specs.Intact.{Intact}
 use Rattle.wrote.specs.Wrote.{write-intact}
 use Rattle.borders.specs.Bordering.{rowVerdict, rowWritten, rowsWritten, Ends}
-
--- The rows from i on, with their bytes
-
-abbrev pub rowsFrom : ℕ → List ℕ → List ℕ → ℕ → List (ℕ × List ℕ)
-rowsFrom width rows bytes i = rowsWith width (drop i rows) (drop (i * width) bytes)
-
-rows-over : (width : ℕ) (rows bytes : List ℕ) (i : ℕ) → length rows ≤ i → rowsFrom width rows bytes i ≡ []
-unfolding rowsWith
-rows-over width rows bytes i l = rw (drop-of-length-le rows l)
-
-rows-next : (width : ℕ) (rows bytes : List ℕ) (i : ℕ) → i < length rows → rowsFrom width rows bytes i ≡ (at rows i, take width (drop (i * width) bytes)) ∷ rowsFrom width rows bytes (i + 1)
-unfolding rowsWith
-rows-next width rows bytes i l =
-    let e : suc i ≡ i + 1 = omega arith in
-    let first : ℕ × List ℕ = (at rows i, take width (drop (i * width) bytes)) in
-    rw (drop-cons rows i 0 l, drop-drop width (i * width) bytes)
-    (ap (λ (k : ℕ). first ∷ rowsWith width (drop (suc i) rows) (drop k bytes)) (sym (suc-mul i width)) ∙ ap (λ (k : ℕ). first ∷ rowsFrom width rows bytes k) e)
 
 -- row i lies inside the bytes, and all of them are few
 pub row-inside : (width n i : ℕ) → i < n → n ≤ 64 → width ≤ 1024 → (i * width + width ≤ n * width) × (n * width ≤ 65536)
@@ -73,8 +56,8 @@ module _ (size : Size) (tag : ℕ) (rows bytes : List ℕ) where
     most = omega arith;
     intact = k;
     goes =
-        let from : (b : List ℕ) → Ended Held = λ b. inOrder verdict next h (rowsWith (size .width) rows b) in
-        ap (λ (n : ℕ). from (drop n bytes)) (sym (zero-mul (size .width))) ∙ ap (λ (n : ℕ). record { done = n; refusal = from (drop (0 * size .width) bytes) .refusal; left = from (drop (0 * size .width) bytes) .left }) (sym (zero-add (from (drop (0 * size .width) bytes) .done)));
+        let x = inOrder verdict next h (rowsFrom (size .width) rows bytes 0) in
+        ap (λ (xs : List (ℕ × List ℕ)). inOrder verdict next h xs) (sym (rows-all (size .width) rows bytes)) ∙ ap (λ (n : ℕ). record { done = n; refusal = x .refusal; left = x .left }) (sym (zero-add (x .done)));
   }
 
   module _ {h₀ : Held} {i : ℕ} {h : Held} (a : Along size tag rows bytes h₀ i h) where

@@ -1,12 +1,14 @@
--- A write from C of the bytes that the version reads there is accepted, and leaves every byte of what was lent. Assumes nothing.
-use mathlib.Core.Path.{_≡_, refl, _∙_, ap}
+-- A write from C of the bytes that the version reads there is accepted, and leaves every byte of what was lent; so does a border that did no row. Assumes nothing.
+use mathlib.Core.Path.{_≡_, refl, sym, _∙_, ap}
 use mathlib.Core.Bool.{true}
-use mathlib.Core.List.{List}
+use mathlib.Core.List.{List, [], _∷_}
 use mathlib.Core.Option.{Option, none, some}
 use Prim.Native.Nat.{ℕ, _<_}
 use lib.ListN.{length}
+use borrow.Author.Tests.{eq-eqb}
 use Rattle.basics.specs.Decide.{at}
 use Rattle.records.specs.Records.{lives}
+use Rattle.records.specs.Sound.{Sound}
 use Rattle.answers.specs.Answers.{Refusal, Answer}
 use Rattle.answers.specs.Tests.{unless}
 use Rattle.soundness.specs.Judged.{Leaves, judged-sound}
@@ -14,14 +16,17 @@ use Rattle.reads.specs.Reads.{rowOfTag}
 use Rattle.owning.specs.Owning.{held}
 use Rattle.writes.specs.Writing.{writeVerdict, written}
 use Rattle.wrote.specs.Wrote.{written-as-read}
+use Rattle.borders.specs.Bordering.{bordered}
+use Rattle.borders.specs.BorderingWays.{bordered-none}
 use Rattle.view.specs.View.{Store}
 use Rattle.theorem.specs.Trace.{over}
 use Rattle.theorem.specs.Trace as trace
 use Rattle.theorem.specs.Stores.{write-untouched}
 use Rattle.layout.specs.Layout.{loaded, Fits}
+use Rattle.host.specs.Host.{Lent}
 use Rattle.layout.specs.Back.{stored-loaded}
-use Rattle.hosting.specs.Calls.{write}
-use Rattle.hosting.specs.Called.{Host-ends, write-ends}
+use Rattle.hosting.specs.Calls.{write, border}
+use Rattle.hosting.specs.Called.{Host-ends, write-ends, border-ends}
 use Rattle.hosting.specs.Guarantee.{loaded-whole}
 
 either-way : {A : Type 0} (v : Option Refusal) (x : A) → unless v (λ r. x) x ≡ x
@@ -43,3 +48,12 @@ module _ (b places : List ℕ) (f : Fits b) (low : (i : ℕ) → at b i < 256) (
       let (n, s) = write-untouched st (loaded-whole b f) over (trace.write-ends (judged-sound (st .sound) got)) long below a same in
       let left : _≡_ {A = List ℕ × List ℕ} (b′, places′) (b, places) = l .left ∙ rw (written-as-read z places tag r bs same, stored-loaded b f low) (either-way v (b, places)) in
       (n, ap (λ (p : List ℕ × List ℕ). p .0) left, ap (λ (p : List ℕ × List ℕ). p .1) left)
+
+-- of a border, whatever ended it
+pub host-none : {b places : List ℕ} {tag : ℕ} {rows bytes b′ places′ : List ℕ} {h : Answer} → Fits b → Sound (loaded b) → Host-ends b places (border tag rows bytes) h b′ places′ → h .numbers ≡ 0 ∷ []
+    → (b′ ≡ b) × (places′ ≡ places)
+host-none {b} {places} {tag} {rows} {bytes} {b′} {places′} f s (border-ends {done = done} e) none-done =
+    let l = e .sound f s in
+    let n : bordered (loaded b) places tag rows bytes .done ≡ 0 = sym (l .counted) ∙ ap (λ (ns : List ℕ). at ns 0) none-done in
+    let kept : _≡_ {A = Lent} (b′, places′) (b, places) = l .left ∙ rw (eq-eqb _ 0 n, bordered-none (loaded b) places tag rows bytes n) in
+    (ap (λ (p : Lent). p .0) kept, ap (λ (p : Lent). p .1) kept)

@@ -53,12 +53,12 @@ unfolding equal any different alive snapshotsAlive shared placesUsed refusal tes
 untouched = refl
 
 -- borders of version 7 in the last place: three rows done, one of them twice and one as it is; the third row refused by 24, and what is behind it not
--- written; refused by 3; no rows; no rows of a version that is not alive; a byte short
+-- written; refused by 3; no rows; no rows of a version that is not alive; a byte short; 64 rows; 65 with a wrong length
 borders : answers tiny (opened tiny)
     (one (snapshot 0 7) ∷ border 7 (1 ∷ 1 ∷ 0 ∷ []) (5 ∷ 6 ∷ 0 ∷ []) ∷ border 7 (1 ∷ 0 ∷ 0 ∷ 1 ∷ 1 ∷ []) (7 ∷ 0 ∷ 9 ∷ 8 ∷ 8 ∷ []) ∷ one (read 7 1)
-    ∷ border 7 (1 ∷ 2 ∷ 1 ∷ []) (4 ∷ 4 ∷ 3 ∷ []) ∷ one (read 7 1) ∷ border 7 [] [] ∷ border 8 [] [] ∷ border 7 (1 ∷ 1 ∷ []) (9 ∷ []) ∷ one count ∷ [])
+    ∷ border 7 (1 ∷ 2 ∷ 1 ∷ []) (4 ∷ 4 ∷ 3 ∷ []) ∷ one (read 7 1) ∷ border 7 [] [] ∷ border 8 [] [] ∷ border 7 (1 ∷ 1 ∷ []) (9 ∷ []) ∷ border 7 (replicate 64 1) (replicate 64 6) ∷ border 7 (replicate 65 1) (6 ∷ []) ∷ one count ∷ [])
     ≡ done ∷ handed 0 [] (3 ∷ []) ∷ handed 24 [] (2 ∷ []) ∷ row (7 ∷ [])
-    ∷ handed 3 [] (1 ∷ []) ∷ row (4 ∷ []) ∷ handed 0 [] (0 ∷ []) ∷ handed 21 [] (0 ∷ []) ∷ handed 2 [] (0 ∷ []) ∷ counts 3 1 ∷ []
+    ∷ handed 3 [] (1 ∷ []) ∷ row (4 ∷ []) ∷ handed 0 [] (0 ∷ []) ∷ handed 21 [] (0 ∷ []) ∷ handed 2 [] (0 ∷ []) ∷ handed 0 [] (64 ∷ []) ∷ handed 25 [] (0 ∷ []) ∷ counts 3 1 ∷ []
 unfolding equal rowsWith any different alive snapshotsAlive shared placesUsed refusal inOrder tests accepted adopt put without effect opened verdict answer after borderTests bordered reply next answers
 borders = refl
 

@@ -5,15 +5,16 @@ use mathlib.Core.Logic.{_≢_, _↔_}
 use mathlib.Core.Bool.{Bool, true, false, not, _&&_, cond, false≢true}
 use mathlib.Core.List.{List, [], _∷_}
 use mathlib.Core.Option.{Option, none, some}
-use Prim.Native.Nat.{ℕ, suc, _*_, _≤_, _<_}
+use Prim.Native.Nat.{ℕ, _*_, _≤_, _<_}
 use native.Mathlib.Omega.{arith}
 use lib.Dec.{eqb, leb}
-use lib.ListN.{length, drop}
+use lib.ListN.{length}
 use borrow.Author.Tests.{eq-eqb, ne-eqb, eqb-false, le-leb, lt-leb, leb-true, leb-false, not-true, not-false}
 use Rattle.basics.specs.Decide.{and-yes, both}
 use Rattle.basics.specs.Equal.{equal, equal-refl, equal-false, equal-not}
 use Rattle.measures.specs.declared.Size.{Size}
 use Rattle.measures.specs.Measures.{rowsWith}
+use Rattle.measures.specs.Rows.{rows-long}
 use Rattle.model.specs.Call.{Single, snapshot, read, write, delete, count, Call, one, border}
 use Rattle.answers.specs.Answers.{Refusal, bad-length, bad-row, unknown-tag, places-full, too-many-rows, number, Answer, done, row, refusedOf, refused}
 use Rattle.copies.specs.Copies.{Cell, alive, snapshotsAlive, shared, placesUsed, adopt, renewed}
@@ -180,11 +181,6 @@ never-unsound z m (border t rs bs) = go (leb 65 (length rs)) (not (eqb (length b
     go false false false = rows
 
 -- a border that is answered with 0 has done every row
-rows-long : (width : ℕ) (rs bs : List ℕ) → length (rowsWith width rs bs) ≡ length rs
-unfolding rowsWith
-rows-long width [] bs = refl
-rows-long width (r ∷ rs) bs = ap suc (rows-long width rs (drop width bs))
-
 pub border-all : (z : Size) (m : Model) (t : ℕ) (rs bs : List ℕ) → reply z m (border t rs bs) .number ≡ 0 → reply z m (border t rs bs) .numbers ≡ length rs ∷ []
 unfolding reply bordered
 border-all z m t rs bs = go (refusal (borderTests z (m .snapshots) t rs bs))

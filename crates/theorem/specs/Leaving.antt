@@ -1,20 +1,22 @@
 -- What a list of calls leaves is what `leftBy` says of it, to the last byte. Assumes nothing.
-use mathlib.Core.Path.{_≡_, refl, _∙_, ap}
-use mathlib.Core.List.{List}
+use mathlib.Core.Path.{_≡_, refl, sym, _∙_, ap}
+use mathlib.Core.List.{List, [], _∷_}
 use mathlib.Core.Option.{Option, none, some}
 use Prim.Native.Nat.{ℕ}
+use Rattle.basics.specs.Decide.{at}
 use Rattle.trees.specs.declared.Tree.{Tree}
 use Rattle.records.specs.Records.{Records}
 use Rattle.records.specs.Sound.{Sound}
 use Rattle.answers.specs.Answers.{Refusal, Answer}
 use Rattle.answers.specs.Tests.{unless}
 use Rattle.answers.specs.Laws.{unless-made}
-use Rattle.model.specs.Call.{write, Call, one}
+use Rattle.model.specs.Call.{write, Call, one, border}
 use Rattle.model.specs.Model.{Model}
 use Rattle.edits.specs.Edits.{withTree}
 use Rattle.takes.specs.Taking.{snapshotVerdict, snapshotTree}
 use Rattle.owning.specs.Owning.{held}
 use Rattle.writes.specs.Writing.{writeVerdict, written}
+use Rattle.borders.specs.BorderingWays.{bordered-none}
 use Rattle.deletes.specs.Deleting.{Left, left, deleteVerdict, deleted}
 use Rattle.reads.specs.Reads.{rowOfTag}
 use Rattle.wrote.specs.Wrote.{written-as-read}
@@ -43,6 +45,12 @@ leaves-untouched s tag r bs e = rw (written-as-read (s .records) (s .places) tag
     go : (v : Option Refusal) → unless v (λ x. s) s ≡ s
     go none = refl
     go (some x) = refl
+
+-- a border that did no row
+pub leaves-none : {z : Records} {places : List ℕ} {tag : ℕ} {rows bytes : List ℕ} {h : Answer} {s′ : State} → Sound z → Call-ends z places (border tag rows bytes) h s′ → h .numbers ≡ 0 ∷ [] → s′ ≡ state z places
+leaves-none {z} {places} {tag} {rows} {bytes} k (border-ends {done = done} e) none-done =
+    let n : done ≡ 0 = ap (λ (ns : List ℕ). at ns 0) none-done in
+    ap (stateHeld (z .size)) (e .sound k .left ∙ bordered-none z places tag rows bytes (sym (e .sound k .counted) ∙ n))
 
 -- any list of calls on a store that runs
 pub list-leaves : {s s′ : State} {m : Model} {cs : List Call} {hs : List Answer} → Runs (s .records) (s .places) m → Trace s cs hs s′ → s′ ≡ leftBy s cs

@@ -19,7 +19,7 @@ use Rattle.view.specs.View.{view, Store, started}
 use Rattle.view.specs.Viewed.{view-snapshots}
 use Rattle.theorem.specs.Trace.{State, Call-ends, Trace, over, then, Equals}
 use Rattle.theorem.specs.Theorem.{theorem-sound}
-use Rattle.theorem.specs.Leaving.{call-leaves, leaves-untouched}
+use Rattle.theorem.specs.Leaving.{call-leaves, leaves-untouched, leaves-none}
 use Rattle.theorem.specs.Consequences as model
 use Rattle.theorem.specs.Consequences.{AllSpare}
 
@@ -136,6 +136,10 @@ module _ {s s′ : State} {cs : List Call} {hs : List Answer} (st : Store (s .re
     -- a border that is answered with 0 has done every row
     pub border-all : {tag : ℕ} {rows bytes : List ℕ} → Call-ends (s′ .records) (s′ .places) (border tag rows bytes) h s″ → h .number ≡ 0 → h .numbers ≡ length rows ∷ []
     border-all {tag} {rows} {bytes} k = rw (answered s′ stays-store stays-whole k) (model.border-all (s′ .records .size) (its s′ stays-store stays-whole) tag rows bytes)
+
+    -- and one that has done none leaves every record and every byte as it was
+    pub border-none : {tag : ℕ} {rows bytes : List ℕ} → Call-ends (s′ .records) (s′ .places) (border tag rows bytes) h s″ → h .numbers ≡ 0 ∷ [] → s″ ≡ s′
+    border-none k e = leaves-none (stays-store .sound) k e
 
     -- a snapshot is accepted exactly if its tag is neither 0 nor alive, its source lives and fewer than 64 are alive
     pub snapshot-accepted : {source new : ℕ} → Call-ends (s′ .records) (s′ .places) (one (snapshot source new)) h s″

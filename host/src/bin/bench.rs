@@ -4,7 +4,9 @@ use rowstore_host::dice::Dice;
 use rowstore_host::judge::Records;
 use rowstore_host::layout::Measures;
 use rowstore_host::plain::Plain;
-use rowstore_host::store::Store;
+use rowstore_host::store::{Store, MAX_BORDER};
+use std::cmp::Reverse;
+use std::collections::HashSet;
 use std::hint::black_box;
 use std::time::{Duration, Instant};
 
@@ -14,6 +16,9 @@ const REPETITION: Duration = Duration::from_millis(2);
 
 /// How many versions and rows a call goes through in turn.
 const TARGETS: usize = 64;
+
+/// How many borders are written in turn; a repetition has no fewer calls.
+const BORDERS: usize = 4;
 
 #[derive(Clone, Copy)]
 struct Shape {
@@ -112,15 +117,33 @@ impl Lent {
         self.shape.measures.rows
     }
 
+    /// The place in which a version reads a row, for all of them.
+    fn place(&self) -> impl Fn(u16, usize) -> usize {
+        let records = self.parsed();
+        move |tag, row| records.place_of(tag, row).expect("a place for every row")
+    }
+
+    /// Whether another version shares a version's row, for all of them.
+    fn is_shared(&self) -> impl Fn(u16, usize) -> bool {
+        let place = self.place();
+        let mut readers = vec![0; self.shape.measures.places];
+        for tag in self.tags() {
+            (0..self.rows()).for_each(|row| readers[place(tag, row)] += 1);
+        }
+        move |tag, row| readers[place(tag, row)] > 1
+    }
+
+    /// The bytes of rows, one after the other.
+    fn bytes(&self, tag: u16, rows: &[u16]) -> Vec<u8> {
+        let place = self.place();
+        let stretch = |&row: &u16| self.shape.measures.stretch(place(tag, row.into()));
+        let bytes = rows.iter().flat_map(|row| &self.places[stretch(row)]);
+        bytes.copied().collect()
+    }
+
     /// Versions and rows drawn from those that are shared, or from those that are not.
     fn targets(&self, shared: bool) -> Vec<(u16, usize)> {
-        let records = self.parsed();
-        let tags = records.tags();
-        let is_shared = |tag: u16, row: usize| {
-            let place = records.place_of(tag, row);
-            let mut others = tags.iter().filter(|&&other| other != tag);
-            others.any(|&other| records.place_of(other, row) == place)
-        };
+        let (tags, is_shared) = (self.tags(), self.is_shared());
         let mut dice = Dice::new(2);
         let mut drawn = (0..100_000).map(|_| (dice.pick(&tags), dice.below(self.rows())));
         let mut targets = Vec::new();
@@ -128,6 +151,57 @@ impl Lent {
             targets.extend(drawn.find(|&(tag, row)| is_shared(tag, row) == shared));
         }
         targets
+    }
+
+    /// Borders of rows that are shared, or of those that are not, for the versions that have most of
+    /// them: as many different rows as there are and are asked for, again and again.
+    fn borders(&self, shared: bool, most: usize) -> Vec<Border> {
+        let is_shared = self.is_shared();
+        let border = |tag: u16| {
+            let rows = 0..self.rows() as u16;
+            let rows = rows.filter(|&row| is_shared(tag, row.into()) == shared);
+            let rows = rows.collect();
+            Border { tag, rows }
+        };
+        let mut borders: Vec<Border> = self.tags().into_iter().map(border).collect();
+        borders.sort_by_key(|border| Reverse(border.rows.len()));
+        borders.retain(|border| !border.rows.is_empty());
+        borders.truncate(BORDERS);
+        for Border { rows, .. } in &mut borders {
+            rows.sort_by_key(|row| row.wrapping_mul(40_503));
+            rows.truncate(most);
+            *rows = rows.iter().copied().cycle().take(MAX_BORDER).collect();
+        }
+        borders
+    }
+}
+
+/// A version and 64 of its rows.
+struct Border {
+    tag: u16,
+    rows: Vec<u16>,
+}
+
+impl Border {
+    /// Writes the rows with one call, or with a call for each; 0 if all are accepted.
+    fn write<S: Store>(
+        &self,
+        at_once: bool,
+        records: &mut [u8],
+        places: &mut [u8],
+        bytes: &[u8],
+    ) -> u8 {
+        if at_once {
+            return S::border(records, places, self.tag, &self.rows, bytes).0;
+        }
+        let rows = self.rows.iter().zip(bytes.chunks(bytes.len() / MAX_BORDER));
+        rows.fold(0, |answer, (&row, bytes)| {
+            answer | S::write(records, places, self.tag, row.into(), bytes)
+        })
+    }
+
+    fn different_rows(&self) -> usize {
+        self.rows.iter().collect::<HashSet<_>>().len()
     }
 }
 
@@ -140,6 +214,8 @@ struct Stock {
     full: Lent,
     /// With a free entry.
     roomy: Lent,
+    /// With free entries for a border, or with none in use.
+    roomier: Lent,
     /// With fewer than 64 snapshots.
     open_to_more: Lent,
 }
@@ -147,13 +223,27 @@ struct Stock {
 impl Stock {
     fn of(shape: Shape) -> Stock {
         let Measures { rows, places, .. } = shape.measures;
-        let entries = shape.entries.min(places - rows - 1);
+        let with_free = |free: usize| {
+            let entries = shape.entries.min((places - rows).saturating_sub(free));
+            Lent::grown(Shape { entries, ..shape })
+        };
         let snapshots = shape.snapshots.min(63);
         Stock {
             full: Lent::grown(shape),
-            roomy: Lent::grown(Shape { entries, ..shape }),
+            roomy: with_free(1),
+            roomier: with_free(MAX_BORDER),
             open_to_more: Lent::grown(Shape { snapshots, ..shape }),
         }
+    }
+
+    /// For each kind of border the store that it is written to, and the borders.
+    fn borders(&self) -> [(&Lent, Vec<Border>); 3] {
+        let free = self.roomier.parsed().free_places().len();
+        [
+            (&self.full, self.full.borders(false, MAX_BORDER)),
+            (&self.roomier, self.roomier.borders(true, free)),
+            (&self.full, self.full.borders(true, MAX_BORDER)),
+        ]
     }
 }
 
@@ -170,7 +260,7 @@ fn span(calls: usize, act: &mut impl FnMut(usize)) -> Duration {
 
 /// Times an act, which is given the number of the call.
 fn timed(mut act: impl FnMut(usize) + 'static) -> Repetition {
-    let mut calls = 1;
+    let mut calls = BORDERS;
     while span(calls, &mut act) < REPETITION {
         calls *= 2;
     }
@@ -228,28 +318,48 @@ fn timed_read<S: Store>(stock: &Stock) -> Repetition {
     })
 }
 
+/// Rows of bytes that no row of the store has yet.
+struct Fresh {
+    width: usize,
+    bytes: Vec<u8>,
+    written: u64,
+}
+
+impl Fresh {
+    fn rows(rows: usize, lent: &Lent) -> Fresh {
+        let width = lent.shape.measures.width;
+        Fresh {
+            width,
+            bytes: vec![7; rows * width],
+            written: 0,
+        }
+    }
+
+    fn bytes(&mut self) -> &[u8] {
+        let mut row = 0;
+        while row < self.bytes.len() {
+            self.written += 1;
+            self.bytes[row..row + 8].copy_from_slice(&self.written.to_le_bytes());
+            row += self.width;
+        }
+        &self.bytes
+    }
+}
+
 fn timed_write<S: Store>(lent: &Lent, shared: bool) -> Repetition {
     let targets = lent.targets(shared);
-    let mut bytes = vec![7; lent.shape.measures.width];
+    let mut fresh = Fresh::rows(1, lent);
     let mut places = lent.places.clone();
-    let mut written: u64 = 0;
     timed_changing(&lent.records, move |records, number| {
         let (tag, row) = targets[number % targets.len()];
-        // Bytes that no row has yet.
-        written += 1;
-        bytes[..8].copy_from_slice(&written.to_le_bytes());
-        S::write(records, &mut places, tag, row, &bytes)
+        S::write(records, &mut places, tag, row, fresh.bytes())
     })
 }
 
 /// Writes what the version reads there already, a shared row, which changes nothing.
 fn timed_write_equal<S: Store>(lent: &Lent) -> Repetition {
-    let records = lent.parsed();
-    let bytes = |&(tag, row): &(u16, usize)| {
-        let place = records.place_of(tag, row).expect("a place for every row");
-        lent.places[lent.shape.measures.stretch(place)].to_vec()
-    };
     let targets = lent.targets(true);
+    let bytes = |&(tag, row): &(u16, usize)| lent.bytes(tag, &[row as u16]);
     let rows: Vec<Vec<u8>> = targets.iter().map(bytes).collect();
     let mut lent = lent.clone();
     timed(move |number| {
@@ -261,6 +371,27 @@ fn timed_write_equal<S: Store>(lent: &Lent) -> Repetition {
             row,
             bytes,
         );
+        assert_eq!(answer, 0);
+    })
+}
+
+fn timed_border<S: Store>(lent: &Lent, borders: Vec<Border>, at_once: bool) -> Repetition {
+    let mut fresh = Fresh::rows(MAX_BORDER, lent);
+    let mut places = lent.places.clone();
+    timed_changing(&lent.records, move |records, number| {
+        let border = &borders[number % borders.len()];
+        border.write::<S>(at_once, records, &mut places, fresh.bytes())
+    })
+}
+
+fn timed_border_equal<S: Store>(lent: &Lent, borders: Vec<Border>, at_once: bool) -> Repetition {
+    let bytes = |border: &Border| lent.bytes(border.tag, &border.rows);
+    let rows: Vec<Vec<u8>> = borders.iter().map(bytes).collect();
+    let mut lent = lent.clone();
+    timed(move |number| {
+        let (border, bytes) = (&borders[number % borders.len()], &rows[number % rows.len()]);
+        let records = black_box(&mut lent.records);
+        let answer = border.write::<S>(at_once, records, &mut lent.places, bytes);
         assert_eq!(answer, 0);
     })
 }
@@ -290,8 +421,8 @@ const CALLS: [&str; 8] = [
 ];
 
 /// The calls in the order of their names.
-fn timed_calls<S: Store>(stock: &Stock) -> [Repetition; 8] {
-    [
+fn timed_calls<S: Store>(stock: &Stock) -> Vec<Repetition> {
+    vec![
         timed_open::<S>(stock),
         timed_snapshot::<S>(stock),
         timed_read::<S>(stock),
@@ -303,15 +434,43 @@ fn timed_calls<S: Store>(stock: &Stock) -> [Repetition; 8] {
     ]
 }
 
-/// The stores that are timed, by name.
-fn stores(stock: &Stock) -> Vec<(&'static str, [Repetition; 8])> {
+const BORDER_KINDS: [&str; 3] = ["border unshared", "border shared", "border equal"];
+
+/// The borders in the order of their kinds, and then the same rows one by one.
+fn timed_borders<S: Store>(stock: &Stock) -> Vec<Repetition> {
+    let timed_kinds = |at_once: bool| {
+        let [(full, unshared), (roomier, shared), (_, equal)] = stock.borders();
+        [
+            timed_border::<S>(full, unshared, at_once),
+            timed_border::<S>(roomier, shared, at_once),
+            timed_border_equal::<S>(full, equal, at_once),
+        ]
+    };
+    [true, false].into_iter().flat_map(timed_kinds).collect()
+}
+
+/// A store that is timed.
+struct Timed {
+    name: &'static str,
+    calls: fn(&Stock) -> Vec<Repetition>,
+    borders: fn(&Stock) -> Vec<Repetition>,
+}
+
+impl Timed {
+    fn of<S: Store>() -> Timed {
+        Timed {
+            name: S::NAME,
+            calls: timed_calls::<S>,
+            borders: timed_borders::<S>,
+        }
+    }
+}
+
+fn stores() -> Vec<Timed> {
     vec![
         #[cfg(feature = "linked")]
-        (
-            rowstore_host::store::Proved::NAME,
-            timed_calls::<rowstore_host::store::Proved>(stock),
-        ),
-        (Plain::NAME, timed_calls::<Plain>(stock)),
+        Timed::of::<rowstore_host::store::Proved>(),
+        Timed::of::<Plain>(),
     ]
 }
 
@@ -342,20 +501,40 @@ fn print_shape(shape: Shape) {
     println!("{snapshots} snapshots, {ghosts} ghosts, {used} of {entries} entries in use");
     print!("{:<16}", "ns per call");
     let mut cells = vec![timed_pass(&stock.full)];
-    let stores = stores(&stock);
-    let columns = stores.len();
-    for (name, calls) in stores {
-        print!("{name:>12}");
-        cells.extend(calls);
+    for store in stores() {
+        print!("{:>12}", store.name);
+        cells.extend((store.calls)(&stock));
     }
     println!("{:>12}", "one pass");
     let times = medians(cells);
     for (row, call) in CALLS.iter().enumerate() {
         print!("{call:<16}");
-        for column in 0..columns {
-            print!("{:>12.0}", times[1 + column * CALLS.len() + row]);
+        for calls in times[1..].chunks(CALLS.len()) {
+            print!("{:>12.0}", calls[row]);
         }
         println!("{:>12.0}", times[0]);
+    }
+    print_borders(&stock);
+}
+
+/// The time of borders of 64 rows, beside 64 writes of the same rows; at least so many are different.
+fn print_borders(stock: &Stock) {
+    print!("{:<16}{:>12}", "ns per 64 rows", "different");
+    let mut cells = Vec::new();
+    for store in stores() {
+        print!("{:>12}{:>12}{:>7}", store.name, "64 writes", "ratio");
+        cells.extend((store.borders)(stock));
+    }
+    println!();
+    let times = medians(cells);
+    for (kind, (_, borders)) in stock.borders().into_iter().enumerate() {
+        let different = borders.iter().map(Border::different_rows).min();
+        print!("{:<16}{:>12}", BORDER_KINDS[kind], different.unwrap_or(0));
+        for times in times.chunks(2 * BORDER_KINDS.len()) {
+            let (border, writes) = (times[kind], times[BORDER_KINDS.len() + kind]);
+            print!("{border:>12.0}{writes:>12.0}{:>7.2}", border / writes);
+        }
+        println!();
     }
 }
 
@@ -370,20 +549,20 @@ fn print_growth() {
             entries,
         })
     });
-    let names: Vec<&str> = stores(&stocks[0]).iter().map(|(name, _)| *name).collect();
+    let stores = stores();
     let mut cells: Vec<Repetition> = Vec::new();
     for stock in &stocks {
-        cells.extend(stores(stock).into_iter().flat_map(|(_, calls)| calls));
+        cells.extend(stores.iter().flat_map(|store| (store.calls)(stock)));
         cells.push(timed_pass(&stock.full));
     }
     let times = medians(cells);
-    let lines = names.len() * CALLS.len() + 1;
+    let lines = stores.len() * CALLS.len() + 1;
     print!("{:<24}", "ns per call");
     GROWTH.iter().for_each(|entries| print!("{entries:>9}"));
     println!("   factors");
     for line in 0..lines {
-        let label = match names.get(line / CALLS.len()) {
-            Some(name) => format!("{name} {}", CALLS[line % CALLS.len()]),
+        let label = match stores.get(line / CALLS.len()) {
+            Some(store) => format!("{} {}", store.name, CALLS[line % CALLS.len()]),
             None => "one pass".to_string(),
         };
         print!("{label:<24}");

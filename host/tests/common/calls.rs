@@ -2,7 +2,8 @@
 
 use rowstore_host::copies::Copies;
 use rowstore_host::dice::Dice;
-use rowstore_host::store::Store;
+use rowstore_host::store::{Store, MAX_BORDER};
+use std::hint::black_box;
 
 /// What a buffer to be filled holds before the call.
 const UNFILLED: u8 = 0xc3;
@@ -25,18 +26,27 @@ pub enum Call {
         places_len: usize,
         bytes: Vec<u8>,
     },
+    Border {
+        tag: u16,
+        rows: Vec<u16>,
+        places_len: usize,
+        bytes: Vec<u8>,
+    },
     Delete {
         tag: u16,
     },
     Count,
 }
 
-/// All that a call answers; a refused one has an empty row and zero counts.
+/// All that a call answers; a refused one has an empty row.
 #[derive(Debug, PartialEq)]
 pub struct Outcome {
     pub answer: u8,
     pub row: Vec<u8>,
-    pub counts: (usize, usize),
+    /// Those that a call sets: the rows that a border did, or a count's two.
+    pub numbers: Vec<usize>,
+    /// Something that was lent to be read has changed.
+    pub spoilt: bool,
 }
 
 impl Outcome {
@@ -44,7 +54,15 @@ impl Outcome {
         Outcome {
             answer,
             row: Vec::new(),
-            counts: (0, 0),
+            numbers: Vec::new(),
+            spoilt: false,
+        }
+    }
+
+    pub fn with_numbers(answer: u8, numbers: &[usize]) -> Outcome {
+        Outcome {
+            numbers: numbers.to_vec(),
+            ..Outcome::plain(answer)
         }
     }
 }
@@ -55,14 +73,52 @@ impl Call {
             Call::Snapshot { .. } => "snapshot",
             Call::Read { .. } => "read",
             Call::Write { .. } => "write",
+            Call::Border { .. } => "border",
             Call::Delete { .. } => "delete",
             Call::Count => "count",
         }
     }
 
-    /// Whether an accepted call may change the records.
-    pub fn changes_records(&self) -> bool {
-        !matches!(self, Call::Read { .. } | Call::Count)
+    /// The outcome if the call is refused before it has done anything.
+    pub fn refused(&self, answer: u8) -> Outcome {
+        match self {
+            Call::Border { .. } => Outcome::with_numbers(answer, &[0]),
+            Call::Count => Outcome::with_numbers(answer, &[0, 0]),
+            _ => Outcome::plain(answer),
+        }
+    }
+
+    /// The version and the rows that are to be written, each with its bytes, in their order.
+    pub fn rows(&self, width: usize) -> (u16, Vec<(usize, &[u8])>) {
+        match self {
+            Call::Write {
+                tag, row, bytes, ..
+            } => (*tag, vec![(*row, &bytes[..])]),
+            Call::Border {
+                tag, rows, bytes, ..
+            } => {
+                let rows = rows.iter().map(|&row| row.into());
+                (*tag, rows.zip(bytes.chunks(width)).collect())
+            }
+            _ => (0, Vec::new()),
+        }
+    }
+
+    /// How many of these rows were written.
+    pub fn done(&self, outcome: &Outcome) -> usize {
+        match self {
+            Call::Write { .. } => (outcome.answer == 0) as usize,
+            Call::Border { .. } => outcome.numbers[0],
+            _ => 0,
+        }
+    }
+
+    /// Whether the call may have changed lent bytes.
+    pub fn may_change(&self, outcome: &Outcome) -> bool {
+        match self {
+            Call::Snapshot { .. } | Call::Delete { .. } => outcome.answer == 0,
+            _ => self.done(outcome) > 0,
+        }
     }
 
     /// Makes the call; of the places, which have bytes to spare, it lends as many as it says.
@@ -81,17 +137,32 @@ impl Call {
                 places_len,
                 bytes,
             } => {
-                let lent = &mut places[..*places_len];
-                Outcome::plain(S::write(records, lent, *tag, *row, bytes))
+                let mut lent = bytes.clone();
+                let answer = S::write(records, &mut places[..*places_len], *tag, *row, &lent);
+                Outcome {
+                    spoilt: black_box(&mut lent) != bytes,
+                    ..Outcome::plain(answer)
+                }
+            }
+            Call::Border {
+                tag,
+                rows,
+                places_len,
+                bytes,
+            } => {
+                let places = &mut places[..*places_len];
+                let mut lent = (rows.clone(), bytes.clone());
+                let (answer, done) = S::border(records, places, *tag, &lent.0, &lent.1);
+                let (lent_rows, lent_bytes) = black_box(&mut lent);
+                Outcome {
+                    spoilt: lent_rows != rows || lent_bytes != bytes,
+                    ..Outcome::with_numbers(answer, &[done])
+                }
             }
             Call::Delete { tag } => Outcome::plain(S::delete(records, *tag)),
             Call::Count => {
                 let (answer, used, snapshots) = S::count(records);
-                let counts = (used, snapshots);
-                Outcome {
-                    counts,
-                    ..Outcome::plain(answer)
-                }
+                Outcome::with_numbers(answer, &[used, snapshots])
             }
         }
     }
@@ -117,11 +188,20 @@ impl Call {
                 places_len,
                 bytes,
             } => Outcome::plain(copies.write(*places_len, *tag, *row, bytes)),
+            Call::Border {
+                tag,
+                rows,
+                places_len,
+                bytes,
+            } => {
+                let (answer, done) = copies.border(*places_len, *tag, rows, bytes);
+                Outcome::with_numbers(answer, &[done])
+            }
             Call::Delete { tag } => Outcome::plain(copies.delete(*tag)),
-            Call::Count => Outcome {
-                counts: copies.count(),
-                ..Outcome::plain(0)
-            },
+            Call::Count => {
+                let (used, snapshots) = copies.count();
+                Outcome::with_numbers(0, &[used, snapshots])
+            }
         }
     }
 }
@@ -157,8 +237,8 @@ pub enum Source {
 #[derive(Clone, Copy)]
 pub struct Habit {
     pub name: &'static str,
-    /// Of snapshot, read, write, delete and count.
-    pub weights: [usize; 5],
+    /// Of snapshot, read, write, border, delete and count.
+    pub weights: [usize; 6],
     pub source: Source,
     /// Tags are drawn up to this one.
     pub highest_tag: usize,
@@ -169,7 +249,7 @@ impl Habit {
     /// All calls, of any version.
     pub const MIXED: Habit = Habit {
         name: "mixed",
-        weights: [20, 15, 40, 15, 10],
+        weights: [20, 15, 40, 10, 15, 10],
         source: Source::Any,
         highest_tag: 9,
         calls: 120,
@@ -190,14 +270,27 @@ impl Habit {
             2 => {
                 let tag = self.draw_tag(dice, copies);
                 let row = draw_row(dice, copies);
+                let bytes = draw_bytes(dice, copies, tag, row);
                 Call::Write {
                     tag,
                     row,
                     places_len: draw_len(dice, copies.measures.places_len()),
-                    bytes: draw_bytes(dice, copies, tag, row),
+                    bytes: draw_fitting(dice, bytes),
                 }
             }
-            3 => Call::Delete {
+            3 => {
+                let tag = self.draw_tag(dice, copies);
+                let rows = draw_rows(dice, copies);
+                let row_bytes = |&row: &u16| draw_bytes(dice, copies, tag, row.into());
+                let bytes = rows.iter().flat_map(row_bytes).collect();
+                Call::Border {
+                    tag,
+                    rows,
+                    places_len: draw_len(dice, copies.measures.places_len()),
+                    bytes: draw_fitting(dice, bytes),
+                }
+            }
+            4 => Call::Delete {
                 tag: self.draw_tag(dice, copies),
             },
             _ => Call::Count,
@@ -232,21 +325,44 @@ fn draw_row(dice: &mut Dice, copies: &Copies) -> usize {
     }
 }
 
+/// The rows of a border: none, one, several, the most or one too many; now and then one of them is
+/// no row of the store.
+fn draw_rows(dice: &mut Dice, copies: &Copies) -> Vec<u16> {
+    let count = match dice.weighted(&[8, 12, 60, 14, 6]) {
+        0 => 0,
+        1 => 1,
+        2 => dice.between(2, 12),
+        3 => MAX_BORDER,
+        _ => MAX_BORDER + 1,
+    };
+    let rows = copies.measures.rows;
+    let mut drawn: Vec<u16> = (0..count).map(|_| dice.below(rows) as u16).collect();
+    if count > 0 && dice.chance(15) {
+        drawn[dice.below(count)] = dice.pick(&[rows as u16, rows as u16 + 1, 1024, u16::MAX]);
+    }
+    drawn
+}
+
 /// Mostly the length that is right.
 fn draw_len(dice: &mut Dice, right: usize) -> usize {
     if dice.chance(97) {
         right
     } else {
-        dice.pick(&[0, right - 1, right + 1, right + 2])
+        dice.pick(&[0, right.saturating_sub(1), right + 1, right + 2])
     }
 }
 
-/// A row's bytes: now and then those that it has already, or too many or few.
+/// A row's bytes: now and then those that it has already.
 fn draw_bytes(dice: &mut Dice, copies: &Copies, tag: u16, row: usize) -> Vec<u8> {
     let known = copies.tags().contains(&tag) && row < copies.measures.rows;
     if known && dice.chance(10) {
         return copies.row(tag, row).to_vec();
     }
-    let len = draw_len(dice, copies.measures.width);
-    dice.bytes(len)
+    dice.bytes(copies.measures.width)
+}
+
+/// The bytes, or now and then too many or few.
+fn draw_fitting(dice: &mut Dice, mut bytes: Vec<u8>) -> Vec<u8> {
+    bytes.resize(draw_len(dice, bytes.len()), 0);
+    bytes
 }

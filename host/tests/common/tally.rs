@@ -7,8 +7,8 @@ pub struct Tally {
     seeds: usize,
     calls: BTreeMap<&'static str, usize>,
     answers: BTreeMap<u8, usize>,
-    deletes: BTreeMap<&'static str, usize>,
-    equal_writes: BTreeMap<&'static str, usize>,
+    /// Of deletes and the like, the kinds that were met.
+    met: BTreeMap<&'static str, BTreeMap<&'static str, usize>>,
     /// Rows, sharing pairs and counts compared, and records judged.
     pub rows: usize,
     pub pairs: usize,
@@ -37,20 +37,16 @@ impl Tally {
         *self.answers.entry(answer).or_default() += 1;
     }
 
-    pub fn delete(&mut self, shape: &'static str) {
-        *self.deletes.entry(shape).or_default() += 1;
-    }
-
-    /// An accepted write of the bytes that the version read there.
-    pub fn equal_write(&mut self, kind: &'static str) {
-        *self.equal_writes.entry(kind).or_default() += 1;
+    pub fn meet(&mut self, what: &'static str, kind: &'static str) {
+        *self.met.entry(what).or_default().entry(kind).or_default() += 1;
     }
 
     pub fn add(&mut self, other: &Tally) {
         add_each(&mut self.calls, &other.calls);
         add_each(&mut self.answers, &other.answers);
-        add_each(&mut self.deletes, &other.deletes);
-        add_each(&mut self.equal_writes, &other.equal_writes);
+        for (what, kinds) in &other.met {
+            add_each(self.met.entry(what).or_default(), kinds);
+        }
         self.seeds += other.seeds;
         self.rows += other.rows;
         self.pairs += other.pairs;
@@ -67,11 +63,8 @@ impl Tally {
         println!("{title}: {} histories", self.seeds);
         println!("  calls:   {}", listed(&self.calls));
         println!("  answers: {}", listed(&self.answers));
-        if !self.deletes.is_empty() {
-            println!("  deletes: {}", listed(&self.deletes));
-        }
-        if !self.equal_writes.is_empty() {
-            println!("  equal bytes written: {}", listed(&self.equal_writes));
+        for (what, kinds) in &self.met {
+            println!("  {what}: {}", listed(kinds));
         }
         println!(
             "  compared: {} rows, {} pairs for sharing, {} counts, {} times lent bytes untouched",
@@ -101,17 +94,10 @@ impl Tally {
         }
     }
 
-    pub fn require_equal_writes(&self, title: &str, kinds: &[&str]) {
+    pub fn require_met(&self, title: &str, what: &str, kinds: &[&str]) {
         for kind in kinds {
-            let seen = self.equal_writes.contains_key(kind);
-            assert!(seen, "{title}: equal bytes never written to {kind}");
-        }
-    }
-
-    pub fn require_deletes(&self, title: &str, shapes: &[&str]) {
-        for shape in shapes {
-            let seen = self.deletes.contains_key(shape);
-            assert!(seen, "{title}: no delete of a {shape}");
+            let seen = self.met.get(what).is_some_and(|met| met.contains_key(kind));
+            assert!(seen, "{title}: {what}: never met: {kind}");
         }
     }
 }

@@ -6,7 +6,8 @@ use rowstore_host::copies::{Copies, Version};
 use rowstore_host::dice::Dice;
 use rowstore_host::judge::Records;
 use rowstore_host::layout::{Measures, TABLE};
-use rowstore_host::store::{answer, Store};
+use rowstore_host::store::answer::*;
+use rowstore_host::store::{Store, MAX_BORDER};
 use std::fmt::Debug;
 use std::marker::PhantomData;
 
@@ -35,6 +36,15 @@ pub struct Trial<S> {
     /// The tag of the last snapshot taken.
     pub latest: u16,
     store: PhantomData<S>,
+}
+
+/// A row that a call is to write, as it stands when its turn comes.
+struct Turn {
+    row: usize,
+    /// The version reads the same bytes there already.
+    equal: bool,
+    /// Where a row must stay that no other version shared before the call.
+    own_place: Option<usize>,
 }
 
 /// The copies that sound records from elsewhere start with.
@@ -107,34 +117,59 @@ impl<S: Store> Trial<S> {
 
     /// The records taken apart by the judge.
     pub fn parsed(&self) -> Records {
-        Records::of(self.records()).expect("records of a fitting length")
+        self.parsed_of(&self.records)
+    }
+
+    /// The same of records that stood there before.
+    fn parsed_of(&self, records: &[u8]) -> Records {
+        let len = self.measures.records_len();
+        Records::of(&records[..len]).expect("records of a fitting length")
     }
 
     pub fn snapshot(&mut self, source: u16, tag: u16) -> u8 {
-        self.call(&Call::Snapshot { source, tag })
+        self.call(&Call::Snapshot { source, tag }).answer
     }
 
     pub fn read(&mut self, tag: u16, row: usize) -> u8 {
-        self.call(&Call::Read {
+        let read = Call::Read {
             tag,
             row,
             places_len: self.measures.places_len(),
             out_len: self.measures.width,
-        })
+        };
+        self.call(&read).answer
     }
 
     /// Writes a row full of one byte.
     pub fn write(&mut self, tag: u16, row: usize, byte: u8) -> u8 {
-        self.call(&Call::Write {
+        let write = Call::Write {
             tag,
             row,
             places_len: self.measures.places_len(),
             bytes: vec![byte; self.measures.width],
-        })
+        };
+        self.call(&write).answer
+    }
+
+    /// A border of rows that are each full of one byte.
+    pub fn border_of(&self, tag: u16, rows: &[(u16, u8)]) -> Call {
+        let row_bytes = |&(_, byte): &(u16, u8)| vec![byte; self.measures.width];
+        Call::Border {
+            tag,
+            rows: rows.iter().map(|&(row, _)| row).collect(),
+            places_len: self.measures.places_len(),
+            bytes: rows.iter().flat_map(row_bytes).collect(),
+        }
+    }
+
+    /// Writes such a border; gives the answer and the rows done.
+    pub fn border(&mut self, tag: u16, rows: &[(u16, u8)]) -> (u8, usize) {
+        let got = self.call(&self.border_of(tag, rows));
+        (got.answer, got.numbers[0])
     }
 
     pub fn delete(&mut self, tag: u16) -> u8 {
-        self.call(&Call::Delete { tag })
+        self.call(&Call::Delete { tag }).answer
     }
 
     /// Draws calls, and now and then lends records of a wrong length.
@@ -151,36 +186,40 @@ impl<S: Store> Trial<S> {
     }
 
     /// Makes the call on store and copies, and compares.
-    pub fn call(&mut self, call: &Call) -> u8 {
+    pub fn call(&mut self, call: &Call) -> Outcome {
         self.made += 1;
         let before = (self.records.clone(), self.places.clone());
-        self.note_shape(call);
-        let equal = self.equal_write(call);
-        let own_place = self.unshared_place(call);
+        self.note_delete(call);
+        let turns = self.turns(call);
         let wanted = call.on_copies(&mut self.copies);
         let len = self.measures.records_len();
         let got = call.on_store::<S>(&mut self.records[..len], &mut self.places);
         self.check(&got, &wanted, call, "the answer");
         self.tally.call(call.name(), got.answer);
-        if got.answer != 0 || !call.changes_records() || equal.is_some() {
+        let done = &turns[..call.done(&got)];
+        // Bytes that are there already change nothing, and are never refused with 24.
+        let written = done.iter().any(|turn| !turn.equal);
+        let changed = written || done.is_empty() && call.may_change(&got);
+        if !changed {
             self.check(&self.records, &before.0, call, "the records lent");
         }
-        if let Some(kind) = equal {
-            self.check(&got.answer, &0, call, "the answer to equal bytes");
-            self.tally.equal_write(kind);
+        if written {
+            self.check_written(call, done, &before);
+        } else {
+            self.check(&self.places, &before.1, call, "the places lent");
         }
-        match call {
-            Call::Write { tag, row, .. } if got.answer == 0 && equal.is_none() => {
-                self.check_written(call, (*tag, *row), &before, own_place)
-            }
-            _ => self.check(&self.places, &before.1, call, "the places lent"),
+        if got.answer == NO_PLACE {
+            let equal = turns[done.len()].equal;
+            self.check(&equal, &false, call, "equal bytes that are refused");
         }
         self.tally.untouched += 1;
+        self.note_write(call, !written && !done.is_empty());
+        self.note_border(call, &got, done, &before.0);
         if let (Call::Snapshot { tag, .. }, 0) = (call, got.answer) {
             self.latest = *tag;
         }
         self.compare();
-        got.answer
+        got
     }
 
     /// Makes the call with records of a wrong length, which is 20 before all else.
@@ -188,7 +227,7 @@ impl<S: Store> Trial<S> {
         self.made += 1;
         let before = (self.records.clone(), self.places.clone());
         let got = call.on_store::<S>(&mut self.records[..records_len], &mut self.places);
-        let wanted = Outcome::plain(answer::UNSOUND);
+        let wanted = call.refused(UNSOUND);
         self.check(&got, &wanted, call, "the answer to misfit records");
         self.check(&self.records, &before.0, call, "the misfit records lent");
         self.check(&self.places, &before.1, call, "the places lent");
@@ -210,7 +249,7 @@ impl<S: Store> Trial<S> {
     }
 
     /// Counts what kind of node an accepted delete will take away.
-    fn note_shape(&mut self, call: &Call) {
+    fn note_delete(&mut self, call: &Call) {
         let Call::Delete { tag } = *call else { return };
         if tag == 0 || !self.copies.tags().contains(&tag) {
             return;
@@ -227,71 +266,108 @@ impl<S: Store> Trial<S> {
             (_, false) => "node with several children",
             (_, true) => "node with several children under a ghost",
         };
-        self.tally.delete(shape);
+        self.tally.meet("deletes", shape);
     }
 
-    /// Of a write that brings the bytes that the version reads there, what kind of row it is.
-    fn equal_write(&self, call: &Call) -> Option<&'static str> {
-        let Call::Write {
-            tag,
-            row,
-            places_len,
-            bytes,
-        } = call
-        else {
-            return None;
+    /// Counts to what kind of row a write brought the bytes that were there, and still are.
+    fn note_write(&mut self, call: &Call, equal: bool) {
+        let (&Call::Write { tag, row, .. }, true) = (call, equal) else {
+            return;
         };
-        let known = self.copies.tags().contains(tag) && *row < self.measures.rows;
-        let fits = *places_len == self.measures.places_len();
-        if !known || !fits || self.copies.row(*tag, *row) != bytes {
-            return None;
-        }
         let records = self.parsed();
-        let node = records.node_of(*tag).expect("a living version's node");
+        let node = records.node_of(tag).expect("a living version's node");
         let full = self.copies.count().0 == self.measures.places;
-        Some(match (self.copies.shared(*tag, *row), *tag) {
+        let kind = match (self.copies.shared(tag, row), tag) {
             (false, _) => "a row of its own",
             (true, _) if full => "a shared row of a full store",
             (true, 0) => "a shared row of the origin",
             (true, _) if records.children(node) > 0 => "a shared row of a snapshot with children",
             (true, _) => "a shared row of a snapshot",
-        })
-    }
-
-    /// The place in which a write must stay: the one of a row that no other version shares.
-    fn unshared_place(&self, call: &Call) -> Option<usize> {
-        let Call::Write { tag, row, .. } = *call else {
-            return None;
         };
-        let known = self.copies.tags().contains(&tag) && row < self.measures.rows;
-        if !known || self.copies.shared(tag, row) {
-            return None;
-        }
-        self.parsed().place_of(tag, row)
+        self.tally.meet("equal bytes written", kind);
     }
 
-    /// An accepted write changes the row's place, and one that was free; no other byte.
-    fn check_written(
-        &self,
-        call: &Call,
-        (tag, row): (u16, usize),
-        (records, places): &(Vec<u8>, Vec<u8>),
-        own_place: Option<usize>,
-    ) {
+    /// Counts of what kinds a border was.
+    fn note_border(&mut self, call: &Call, got: &Outcome, done: &[Turn], records: &[u8]) {
+        let Call::Border {
+            tag, rows, bytes, ..
+        } = call
+        else {
+            return;
+        };
+        let (before, after) = (self.parsed_of(records), self.parsed());
+        let taken = before.free_places().len() - after.free_places().len();
+        let ghost = after.ghosts() > before.ghosts();
+        let (answer, count, most) = (got.answer, rows.len(), rows.len() == MAX_BORDER);
+        let (dead, too_many) = (answer == NO_VERSION, answer == TOO_MANY_ROWS);
+        let fits = bytes.len() == count * self.measures.width;
+        let inside = !done.is_empty() && done.len() + 1 < count;
+        let again = |i: usize| done[..i].iter().any(|turn| turn.row == done[i].row);
+        let kinds = [
+            ("no row", answer == 0 && count == 0),
+            ("one row", answer == 0 && count == 1),
+            ("several rows", answer == 0 && count > 1 && !most),
+            ("64 rows", answer == 0 && most),
+            ("a row twice", (0..done.len()).any(again)),
+            ("equal bytes", done.iter().any(|turn| turn.equal)),
+            ("two places for the origin", taken > 1 && *tag == 0),
+            ("two places and a ghost", taken > 1 && ghost),
+            ("ended inside by 3", answer == ROW && inside),
+            ("ended inside by 24", answer == NO_PLACE && inside),
+            ("no row of a dead version", dead && count == 0),
+            ("rows of a dead version", dead && count > 0),
+            ("places of a wrong length", answer == LENGTH && fits),
+            ("bytes of a wrong length", answer == LENGTH && !fits),
+            ("65 rows", too_many && fits),
+            ("65 rows of a wrong length", too_many && !fits),
+        ];
+        for (kind, _) in kinds.into_iter().filter(|&(_, met)| met) {
+            self.tally.meet("borders", kind);
+        }
+    }
+
+    /// The rows of the store that a call is to write, up to the first that is none.
+    fn turns(&self, call: &Call) -> Vec<Turn> {
+        let (tag, rows) = call.rows(self.measures.width);
+        if rows.is_empty() || !self.copies.tags().contains(&tag) {
+            return Vec::new();
+        }
+        let records = self.parsed();
+        let turn = |i: usize| {
+            let (row, bytes) = rows[i];
+            if row >= self.measures.rows {
+                return None;
+            }
+            let earlier = rows[..i].iter().rfind(|(other, _)| *other == row);
+            let own_place = (!self.copies.shared(tag, row)).then(|| records.place_of(tag, row));
+            Some(Turn {
+                row,
+                equal: earlier.map_or(self.copies.row(tag, row), |(_, bytes)| bytes) == bytes,
+                own_place: own_place.flatten(),
+            })
+        };
+        (0..rows.len()).map_while(turn).collect()
+    }
+
+    /// Rows that are written change their places, and ones that were free; no other byte.
+    fn check_written(&self, call: &Call, done: &[Turn], before: &(Vec<u8>, Vec<u8>)) {
+        let (tag, _) = call.rows(self.measures.width);
         let after = self.parsed();
-        let place = after.place_of(tag, row).expect("a place for the row");
-        let mut filled = vec![place];
-        match own_place {
-            Some(own) => self.check(&place, &own, call, "the place of an unshared row"),
-            None => {
-                let before = Records::of(&records[..self.measures.records_len()]);
-                let free = before.expect("records of a fitting length").free_places();
-                let still = after.free_places();
-                filled.extend(free.iter().filter(|place| !still.contains(place)));
-                self.check(&free.len(), &(still.len() + 1), call, "the places free");
+        let free = after.free_places();
+        let left = self.measures.places - self.copies.count().0;
+        self.check(&free.len(), &left, call, "the places free");
+        let mut filled = self.parsed_of(&before.0).free_places();
+        filled.retain(|place| free.binary_search(place).is_err());
+        for turn in done {
+            let place = after.place_of(tag, turn.row).expect("a place for the row");
+            if let Some(own) = turn.own_place {
+                self.check(&place, &own, call, "the place of an unshared row");
+            }
+            if !turn.equal {
+                filled.push(place);
             }
         }
-        let mut wanted = places.clone();
+        let mut wanted = before.1.clone();
         for place in filled {
             let stretch = self.measures.stretch(place);
             wanted[stretch.clone()].copy_from_slice(&self.places[stretch]);
