@@ -49,7 +49,7 @@ fn configurations(tally: &mut [usize]) {
 }
 
 fn main() {
-    let mut tally = [0usize; 273];
+    let mut tally = [0usize; 280];
     configurations(&mut tally);
     history_summing::show_refusals(&tally);
     history_summing::show_end(&tally);

@@ -1,4 +1,5 @@
 // A drawn call, made on the store.
+use history_plans::BORDER;
 use history_plans::COUNT;
 use history_plans::Call;
 use history_plans::DELETE;
@@ -8,14 +9,19 @@ use measures::Row;
 use measures::Size;
 use trees::Tree;
 
-// What a call answered, and the tree that it left.
+// What a call answered, how many rows a border did, and the tree that it left.
 pub struct Done {
     pub answer: u8,
+    pub done: usize,
     pub tree: Tree,
 }
 
 fn ended(answer: u8, tree: Tree) -> Done {
-    Done { answer, tree }
+    Done {
+        answer,
+        done: 0,
+        tree,
+    }
 }
 
 fn snapshot<'a>(size: Size, tree: Tree, node: &'a [u8], row: &'a [u16], call: Call) -> Done {
@@ -52,6 +58,43 @@ fn write(
         bytes,
     );
     ended(w.answer, w.tree)
+}
+
+// The row numbers of a border, with zeros behind.
+fn row_numbers(call: Call) -> [u16; 65] {
+    let mut rows = [0u16; 65];
+    rows[0] = (call.row % 65536) as u16;
+    rows[1] = (call.second % 65536) as u16;
+    rows
+}
+
+// The first n numbers, or all where there are fewer.
+fn front16(rows: &[u16], n: usize) -> &[u16] {
+    if n <= rows.len() {
+        return &rows[0..n];
+    }
+    rows
+}
+
+fn border(
+    size: Size,
+    tree: Tree,
+    node: &mut [u8],
+    row: &mut [u16],
+    places: &mut [u8],
+    call: Call,
+) -> Done {
+    let numbers = row_numbers(call);
+    let all = call.bytes;
+    let rows = front16(&numbers, call.count);
+    let bytes = front(&all, call.length);
+    let b = bordering::border(size, tree, node, row, places, call.tag, rows, bytes);
+    let next = b.tree;
+    Done {
+        answer: b.answer,
+        done: b.done,
+        tree: next,
+    }
 }
 
 fn delete(size: Size, tree: Tree, node: &mut [u8], row: &mut [u16], call: Call) -> Done {
@@ -100,6 +143,7 @@ pub fn make(
         WRITE => write(size, tree, node, row, places, call),
         DELETE => delete(size, tree, node, row, call),
         COUNT => count(size, tree, node, row),
+        BORDER => border(size, tree, node, row, places, call),
         _ => read(size, tree, node, row, places, call),
     }
 }

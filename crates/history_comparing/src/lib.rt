@@ -24,6 +24,8 @@ pub const SHARING: u8 = 7;
 
 pub const REFUSAL: u8 = 8;
 
+pub const DONE: u8 = 9;
+
 pub fn first(a: u8, b: u8) -> u8 {
     if a != 0 {
         return a;

@@ -83,11 +83,68 @@ fn change(copies: &mut [usize], call: Call) {
     }
 }
 
-// Makes a call, and answers it.
-pub fn make(copies: &mut [usize], size: Size, call: Call) -> u8 {
+// An answer, and how many rows a border did.
+pub struct Answered {
+    pub answer: u8,
+    pub done: usize,
+}
+
+fn ended(answer: u8, done: usize) -> Answered {
+    Answered { answer, done }
+}
+
+// Makes a call, and answers it; of a border only the tests before its rows.
+fn single(copies: &mut [usize], size: Size, call: Call) -> u8 {
     let answer = history_refusals::refusal(copies, size, call);
     if answer == 0 {
         change(copies, call);
     }
     answer
+}
+
+// A call's bytes from the n-th on, and behind them those before it.
+fn turned(call: Call, n: usize) -> [u8; 16] {
+    let mut bytes = [0u8; 16];
+    let mut i: usize = 0;
+    while i < 16 {
+        bytes[i] = call.bytes[sum(i, n) % 16];
+        i += 1;
+    }
+    bytes
+}
+
+// Row i of a border, 0 or 1, as a write of its own.
+fn row_of(call: Call, width: usize, i: usize) -> Call {
+    let mut write = call;
+    write.kind = WRITE;
+    write.length = width;
+    if i > 0 {
+        write.row = call.second;
+        let bytes = turned(call, width);
+        write.bytes = bytes;
+    }
+    write
+}
+
+// The rows of a border in their order, until one is refused.
+fn rows(copies: &mut [usize], size: Size, call: Call) -> Answered {
+    let n = call.count;
+    let mut i: usize = 0;
+    while i < n {
+        let answer = single(copies, size, row_of(call, size.width, i));
+        if answer != 0 {
+            return ended(answer, i);
+        }
+        i += 1;
+    }
+    ended(0, i)
+}
+
+// Makes a call, and then the rows of a border; other calls have none.
+pub fn make(copies: &mut [usize], size: Size, call: Call) -> Answered {
+    let answer = single(copies, size, call);
+    if answer != 0 {
+        return ended(answer, 0);
+    }
+    rows(copies, size, call)
 }

@@ -1,6 +1,9 @@
 // The dice, and the calls that are drawn with them.
+use history_numbers::above;
 use history_numbers::get;
+use history_numbers::product;
 use history_numbers::sum;
+use history_plans::BORDER;
 use history_plans::COUNT;
 use history_plans::Call;
 use history_plans::DELETE;
@@ -33,13 +36,21 @@ fn some_byte(copies: &[usize], at: usize, equal: bool, dice: &mut usize) -> usiz
     draw(dice, 256)
 }
 
-// Drawn bytes; one time in five those that the version's row has.
-fn some_bytes(copies: &[usize], tag: u16, r: usize, bytes: &mut [u8], dice: &mut usize) {
+// Drawn bytes, from an index on; one time in five those that the version's row has.
+fn some_bytes(
+    copies: &[usize],
+    tag: u16,
+    r: usize,
+    bytes: &mut [u8],
+    from: usize,
+    dice: &mut usize,
+) {
     let equal = draw(dice, 5) == 0;
     let slot = history_slots::slot_of(copies, tag);
-    let mut i: usize = 0;
+    let mut i = from;
     while i < bytes.len() {
-        let x = some_byte(copies, history_slots::byte_at(slot, r, i), equal, dice);
+        let at = history_slots::byte_at(slot, r, above(i, from));
+        let x = some_byte(copies, at, equal, dice);
         bytes[i] = (x % 256) as u8;
         i += 1;
     }
@@ -96,6 +107,8 @@ fn blank(kind: u8, tag: u16) -> Call {
         tag,
         new: 0,
         row: 0,
+        second: 0,
+        count: 0,
         length: 0,
         bytes: [0u8; 16],
         way: 0,
@@ -115,10 +128,42 @@ fn write(plan: Plan, copies: &[usize], dice: &mut usize) -> Call {
     call.row = some_row(plan.size.rows, dice);
     call.length = some_length(plan.size.width, dice);
     let mut bytes = [0u8; 16];
-    some_bytes(copies, call.tag, call.row, &mut bytes, dice);
+    some_bytes(copies, call.tag, call.row, &mut bytes, 0, dice);
     call.bytes = bytes;
     let way = history_refusals::way_of(copies, plan.size, call);
     call.way = way;
+    call
+}
+
+// How many rows a border has: mostly two; 65 are too many.
+fn some_count(dice: &mut usize) -> usize {
+    let n = draw(dice, 12);
+    match n {
+        0 => 0,
+        1 => 1,
+        2 => 65,
+        _ => 2,
+    }
+}
+
+// A border; its two rows may be one, and each has bytes drawn as a write's. For 65 rows too few bytes are lent.
+fn border(plan: Plan, copies: &[usize], dice: &mut usize) -> Call {
+    let mut call = blank(BORDER, some_tag(plan.tags, copies, dice));
+    call.row = some_row(plan.size.rows, dice);
+    call.second = some_row(plan.size.rows, dice);
+    call.count = some_count(dice);
+    call.length = some_length(product(call.count, plan.size.width) % 17, dice);
+    let mut bytes = [0u8; 16];
+    some_bytes(copies, call.tag, call.row, &mut bytes, 0, dice);
+    some_bytes(
+        copies,
+        call.tag,
+        call.second,
+        &mut bytes,
+        plan.size.width,
+        dice,
+    );
+    call.bytes = bytes;
     call
 }
 
@@ -137,6 +182,7 @@ fn drawn(plan: Plan, copies: &[usize], dice: &mut usize) -> Call {
     }
     let kind = draw(dice, 8);
     match kind {
+        4 => border(plan, copies, dice),
         5 => blank(COUNT, 0),
         6 => other(plan, copies, dice, DELETE),
         7 => other(plan, copies, dice, READ),

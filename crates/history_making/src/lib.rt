@@ -4,16 +4,18 @@ use history_plans::Call;
 use measures::Size;
 use trees::Tree;
 
-// The store's answer, the tree that the call left, and the number of what differs, or 0.
+// The store's answer, how many rows a border did, the tree that the call left, and the number of what differs, or 0.
 pub struct Tried {
     pub answer: u8,
+    pub done: usize,
     pub tree: Tree,
     pub what: u8,
 }
 
-// After a refusal: is everything as it was?
+// After a refusal with no row done: is everything as it was?
 fn refused<'a>(
     answer: u8,
+    done: usize,
     before: Tree,
     tree: Tree,
     node: &'a [u8],
@@ -22,6 +24,9 @@ fn refused<'a>(
     kept: &[usize],
 ) -> u8 {
     if answer == 0 {
+        return 0;
+    }
+    if done != 0 {
         return 0;
     }
     unless(
@@ -44,9 +49,10 @@ pub fn on_store(
     let done = history_calling::make(size, tree, node, row, places, call);
     let answer = done.answer;
     let next = done.tree;
-    let what = refused(answer, tree, next, node, row, places, &kept);
+    let what = refused(answer, done.done, tree, next, node, row, places, &kept);
     Tried {
         answer,
+        done: done.done,
         tree: next,
         what,
     }

@@ -20,13 +20,17 @@ pub const COUNT: u8 = 3;
 
 pub const READ: u8 = 4;
 
-// A call, its kind one of the five: the version that it is made on, a new snapshot's tag, a row, the length and the bytes
-// to be written, and what is to become of these; and the dice as the draw left them.
+pub const BORDER: u8 = 5;
+
+// A call, its kind one of the six: the version that it is made on, a new snapshot's tag, a row, a border's second row and the number
+// of its rows, the length and the bytes to be written, and what is to become of a write; and the dice as the draw left them.
 pub struct Call {
     pub kind: u8,
     pub tag: u16,
     pub new: u16,
     pub row: usize,
+    pub second: usize,
+    pub count: usize,
     pub length: usize,
     pub bytes: [u8; 16],
     pub way: usize,

@@ -1,6 +1,8 @@
 // What the full copy answers: 0, or the refusal.
 use history_numbers::get;
+use history_numbers::product;
 use history_numbers::sum;
+use history_plans::BORDER;
 use history_plans::Call;
 use history_plans::DELETE;
 use history_plans::READ;
@@ -131,13 +133,28 @@ fn write_refusal(copies: &[usize], size: Size, call: Call) -> u8 {
     0
 }
 
-// What the full copy answers to a call.
+// 25, 2, 21, or 0, before any row of a border is written.
+fn border_refusal(copies: &[usize], size: Size, call: Call) -> u8 {
+    if call.count > 64 {
+        return 25;
+    }
+    if call.length != product(call.count, size.width) {
+        return 2;
+    }
+    if slot_of(copies, call.tag) >= SLOTS {
+        return 21;
+    }
+    0
+}
+
+// What the full copy answers to a call; to a border, before its rows.
 pub fn refusal(copies: &[usize], size: Size, call: Call) -> u8 {
     let kind = call.kind;
     match kind {
         SNAPSHOT => snapshot_refusal(copies, call.tag, call.new),
         WRITE => write_refusal(copies, size, call),
         DELETE => delete_refusal(copies, call.tag),
+        BORDER => border_refusal(copies, size, call),
         READ => read_refusal(copies, size.rows, call.tag, call.row),
         _ => 0,
     }

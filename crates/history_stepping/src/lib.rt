@@ -16,7 +16,7 @@ pub fn step(
     let dice = history_numbers::get(tally, history_tallying::DICE);
     let call = history_drawing::next(plan, copies, dice);
     let tried = history_trying::call(size, call, tree, node, row, places, copies);
-    history_tallying::count(tally, tree, call, tried.answer);
+    history_tallying::count(tally, tree, call, tried.answer, tried.done);
     history_telling::differ(size, tally, tried.what);
     tried.tree
 }

@@ -37,7 +37,22 @@ pub fn show_refusals(tally: &[usize]) {
     text(b"\n");
 }
 
-// How many nodes of each shape were deleted, how often equal bytes were written, and how many differences there are.
+// How many borders of each kind there were.
+fn show_borders(tally: &[usize]) {
+    entry(b"\nborders: of no row ", tally, history_tallying::NO_ROW);
+    entry(b", of one ", tally, history_tallying::ONE_ROW);
+    entry(b", of two ", tally, history_tallying::TWO_ROWS);
+    entry(b", of a row twice ", tally, history_tallying::ROW_TWICE);
+    entry(
+        b", ended behind the first row by 3: ",
+        tally,
+        history_tallying::ENDED_3,
+    );
+    entry(b", by 24: ", tally, history_tallying::ENDED_24);
+    entry(b", of 65 rows ", tally, history_tallying::MANY_ROWS);
+}
+
+// How many nodes of each shape were deleted, how often equal bytes were written, the borders, and how many differences there are.
 pub fn show_end(tally: &[usize]) {
     entry(b"deleted: leaves ", tally, history_tallying::LEAVES);
     entry(b", with one child ", tally, history_tallying::SINGLE);
@@ -51,6 +66,7 @@ pub fn show_end(tally: &[usize]) {
     entry(b", shared rows ", tally, history_tallying::EQUAL_SHARED);
     entry(b", in a full store ", tally, history_tallying::EQUAL_FULL);
     entry(b", above children ", tally, history_tallying::EQUAL_ABOVE);
+    show_borders(tally);
     entry(b"\ndifferences ", tally, history_tallying::TOTAL);
     text(b"\n");
 }

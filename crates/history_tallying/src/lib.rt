@@ -3,6 +3,7 @@ use history_numbers::above;
 use history_numbers::add;
 use history_numbers::put;
 use history_numbers::sum;
+use history_plans::BORDER;
 use history_plans::Call;
 use history_plans::DELETE;
 use history_plans::SNAPSHOT;
@@ -50,6 +51,21 @@ pub const EQUAL_SHARED: usize = 270;
 pub const EQUAL_FULL: usize = 271;
 
 pub const EQUAL_ABOVE: usize = 272;
+
+// Borders in the whole run: done, with no row, one or two, one row twice; ended behind the first row by 3, by 24; of 65 rows.
+pub const NO_ROW: usize = 273;
+
+pub const ONE_ROW: usize = 274;
+
+pub const TWO_ROWS: usize = 275;
+
+pub const ROW_TWICE: usize = 276;
+
+pub const ENDED_3: usize = 277;
+
+pub const ENDED_24: usize = 278;
+
+pub const MANY_ROWS: usize = 279;
 
 // A configuration begins.
 pub fn clear(tally: &mut [usize]) {
@@ -121,19 +137,38 @@ fn count_delete(tally: &mut [usize], tree: Tree, tag: u16) {
     count_shape(tally, tree, tag);
 }
 
+// A border that was done.
+fn count_border(tally: &mut [usize], call: Call) {
+    add(tally, sum(NO_ROW, call.count));
+    if call.count == 2 {
+        add_if(tally, ROW_TWICE, call.row == call.second);
+    }
+}
+
+// A refused call; only a border may have done a row.
+fn count_refused(tally: &mut [usize], answer: u8, done: usize) {
+    add(tally, REFUSED);
+    add_if(tally, MANY_ROWS, answer == 25);
+    if done == 1 {
+        add_if(tally, ENDED_3, answer == 3);
+        add_if(tally, ENDED_24, answer == 24);
+    }
+}
+
 // A call that was not refused, on the tree before it.
 fn count_kind(tally: &mut [usize], tree: Tree, call: Call) {
     let kind = call.kind;
     match kind {
         SNAPSHOT => add(tally, SNAPSHOTS),
         WRITE => count_equal(tally, tree, call),
+        BORDER => count_border(tally, call),
         DELETE => count_delete(tally, tree, call.tag),
         _ => {}
     }
 }
 
-// A call with its answer, on the tree before it.
-pub fn count(tally: &mut [usize], tree: Tree, call: Call, answer: u8) {
+// A call with its answer and the rows done, on the tree before it.
+pub fn count(tally: &mut [usize], tree: Tree, call: Call, answer: u8, done: usize) {
     put(tally, DICE, call.dice);
     add(tally, CALL);
     add(tally, CALLS);
@@ -141,6 +176,6 @@ pub fn count(tally: &mut [usize], tree: Tree, call: Call, answer: u8) {
     if answer == 0 {
         count_kind(tally, tree, call);
     } else {
-        add(tally, REFUSED);
+        count_refused(tally, answer, done);
     }
 }

@@ -15,6 +15,7 @@ fn show_what(what: u8) {
         history_comparing::READING => text(b"read's answer"),
         history_comparing::BYTES => text(b"a row"),
         history_comparing::SHARING => text(b"who shares with whom"),
+        history_comparing::DONE => text(b"the rows done"),
         _ => text(b"what a refusal leaves"),
     }
 }

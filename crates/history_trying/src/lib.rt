@@ -1,10 +1,18 @@
 // A call on both, the store and the full copy, and what differs afterwards.
 use history_comparing::first;
 use history_comparing::unless;
+use history_copies::Answered;
 use history_making::Tried;
 use history_plans::Call;
 use measures::Size;
 use trees::Tree;
+
+// What the store told beside what the full copy did: the answers, and the rows done.
+fn told(tried: Tried, expected: Answered) -> u8 {
+    let same = unless(tried.answer == expected.answer, history_comparing::ANSWER);
+    let done = unless(tried.done == expected.done, history_comparing::DONE);
+    first(same, first(done, tried.what))
+}
 
 // What is to be compared after a call.
 fn after<'a>(
@@ -33,8 +41,7 @@ pub fn call(
     let mut tried = history_making::on_store(size, call, tree, node, row, places);
     let expected = history_copies::make(copies, size, call);
     let what = after(size, call, tried.tree, node, row, places, copies);
-    let same = unless(tried.answer == expected, history_comparing::ANSWER);
-    tried.what = first(same, first(tried.what, what));
+    tried.what = first(told(tried, expected), what);
     tried
 }
 
@@ -54,6 +61,7 @@ pub fn open(
     let same = unless(answer == 0, history_comparing::ANSWER);
     Tried {
         answer,
+        done: 0,
         tree,
         what: first(same, what),
     }

@@ -8,10 +8,10 @@ use Rattle.history_drawing.proofs.some_bytes.Statement.{statement}
 use Rattle.history_drawing.proofs.some_bytes.Tie as tie
 
 abbrev Inv-loop : tie.InvT-loop
-Inv-loop copies tag r bytes₀ dice₀ equal slot i₀ bytes dice i = (i ≤ length bytes) × (length bytes ≡ length bytes₀)
+Inv-loop copies tag r bytes₀ from dice₀ equal slot i₀ bytes dice i = length bytes ≡ length bytes₀
 
 abbrev μ-loop : tie.MeasureT-loop
-μ-loop copies tag r bytes₀ dice₀ equal slot i₀ bytes dice i = length bytes₀ - i
+μ-loop copies tag r bytes₀ from dice₀ equal slot i₀ bytes dice i = length bytes₀ - i
 
 draw-requires : tie.Need-draw-requires Inv-loop μ-loop
 draw-requires c κs = search needs
@@ -21,6 +21,9 @@ slot-of-requires c κs = search needs
 
 loop-holds : tie.Need-loop-holds Inv-loop μ-loop
 loop-holds c = search needs
+
+above-requires : tie.Need-above-requires Inv-loop μ-loop
+above-requires c κs = search needs
 
 byte-at-requires : tie.Need-byte-at-requires Inv-loop μ-loop
 byte-at-requires c κs = search needs
@@ -58,6 +61,7 @@ some-bytes-spec =
     draw-requires
     slot-of-requires
     loop-holds
+    above-requires
     byte-at-requires
     some-byte-requires
     cast-bytes
