@@ -21,6 +21,7 @@ use Rattle.theorem.specs.Trace.{State, Call-ends, Trace, over, then, Equ
 use Rattle.theorem.specs.Theorem.{theorem-sound}
 use Rattle.theorem.specs.Leaving.{call-leaves, leaves-untouched, leaves-none}
 use Rattle.theorem.specs.Consequences as model
+use Rattle.theorem.specs.Borders as borders
 use Rattle.theorem.specs.Consequences.{AllSpare}
 
 -- another living version reads the row from the same place
@@ -140,6 +141,14 @@ module _ {s s′ : State} {cs : List Call} {hs : List Answer} (st : Store (s .re
     -- and one that has done none leaves every record and every byte as it was
     pub border-none : {tag : ℕ} {rows bytes : List ℕ} → Call-ends (s′ .records) (s′ .places) (border tag rows bytes) h s″ → h .numbers ≡ 0 ∷ [] → s″ ≡ s′
     border-none k e = leaves-none (stays-store .sound) k e
+
+    -- with any refusal but 3 and 24 it has done none
+    pub border-early : {tag : ℕ} {rows bytes : List ℕ} → Call-ends (s′ .records) (s′ .places) (border tag rows bytes) h s″ → h .number ≢ 0 → h .number ≢ 3 → h .number ≢ 24
+        → (h .numbers ≡ 0 ∷ []) × (s″ ≡ s′)
+    border-early {tag} {rows} {bytes} k =
+        let go : h .number ≢ 0 → h .number ≢ 3 → h .number ≢ 24 → h .numbers ≡ 0 ∷ [] =
+        rw (answered s′ stays-store stays-whole k) (borders.border-early (s′ .records .size) (its s′ stays-store stays-whole) tag rows bytes) in
+        λ o p q. (go o p q, border-none k (go o p q))
 
     -- a snapshot is accepted exactly if its tag is neither 0 nor alive, its source lives and fewer than 64 are alive
     pub snapshot-accepted : {source new : ℕ} → Call-ends (s′ .records) (s′ .places) (one (snapshot source new)) h s″
