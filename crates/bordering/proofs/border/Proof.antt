@@ -58,7 +58,7 @@ same-length-4 : tie.Need-same-length-4
 same-length-4 c = search needs
 
 returns-2 : tie.Need-returns-2
-returns-2 c = judged-sound (judged (c .before)) (many-refused _ _ _ _ _ (c .if2 .taken))
+returns-2 c = judged-sound (judged (c .before)) (let e = many-refused _ _ _ _ _ (c .if2 .taken) in record { numbered = e .numbered; counted = e .counted; left = e .left })
 
 mul-if3 : tie.Need-mul-if3
 mul-if3 c =

@@ -1,6 +1,6 @@
 -- `counting::count` meets its contract. Assumes nothing.
 use borrow.Author.Needs.{needs}
-use mathlib.Core.Path.{refl, ap₂}
+use mathlib.Core.Path.{refl}
 use Rattle.soundness.specs.Parts.{few-places}
 use Rattle.answers.specs.Answers.{counts}
 use Rattle.records.specs.Sound.{Sound}
@@ -28,7 +28,7 @@ snapshots-requires c κs = search needs
 returns-2 : tie.Need-returns-2
 returns-2 c =
     let u = c .before .before .before .before .before in
-    judged-sound (judged (u .before)) (ap₂ counts (u .used .ensures) (c .snapshots .ensures))
+    judged-sound (judged (u .before)) (λ i. counts (u .used .ensures i) (c .snapshots .ensures i))
 
 pub count-spec : {M : Type 1} → statement M
 count-spec = tie.close (tie.spec sound-requires returns used-requires snapshots-requires returns-2)
