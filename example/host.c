@@ -31,21 +31,45 @@ static void write_row(uint16_t tag, uint8_t byte) {
          (unsigned)byte);
 }
 
-static void read_row(uint16_t tag, size_t row, uint8_t byte) {
+static void read_row(uint16_t tag, size_t row, uint8_t byte,
+                     size_t sharers_due) {
   uint8_t due[WIDTH];
   uint8_t out[WIDTH];
+  size_t sharers;
   memset(due, byte, sizeof due);
   expect("read",
          rowstore_read(records, sizeof records, places, sizeof places, tag, row,
-                       out, sizeof out),
+                       out, sizeof out, &sharers),
          ROWSTORE_OK);
   printf("read: version %u, row %zu:", (unsigned)tag, row);
   for (size_t i = 0; i < sizeof out; i++) {
     printf(" %02x", (unsigned)out[i]);
   }
-  printf("\n");
+  printf(", sharers: %zu\n", sharers);
   if (memcmp(out, due, sizeof out) != 0) {
     fprintf(stderr, "read: expected %02x in every byte\n", (unsigned)byte);
+    exit(EXIT_FAILURE);
+  }
+  if (sharers != sharers_due) {
+    fprintf(stderr, "read: expected %zu sharers\n", sharers_due);
+    exit(EXIT_FAILURE);
+  }
+}
+
+/* No version has the tag: nothing is filled, and the number is set to 0. */
+static void refused_read(uint16_t tag) {
+  uint8_t before[WIDTH];
+  uint8_t out[WIDTH];
+  size_t sharers = SIZE_MAX;
+  memset(before, 0xc3, sizeof before);
+  memcpy(out, before, sizeof out);
+  uint8_t answer = rowstore_read(records, sizeof records, places, sizeof places,
+                                 tag, ROW, out, sizeof out, &sharers);
+  expect("read of an unknown tag", answer, ROWSTORE_UNKNOWN_TAG);
+  printf("read: version %u, row %d, refused with %u, sharers: %zu\n",
+         (unsigned)tag, ROW, (unsigned)answer, sharers);
+  if (memcmp(out, before, sizeof out) != 0 || sharers != 0) {
+    fprintf(stderr, "read: refused, but the row or its sharers are set\n");
     exit(EXIT_FAILURE);
   }
 }
@@ -119,33 +143,36 @@ int main(void) {
          rowstore_snapshot(records, sizeof records, ROWSTORE_ORIGIN, TAG),
          ROWSTORE_OK);
   printf("snapshot: version %d as %d\n", ROWSTORE_ORIGIN, TAG);
+  read_row(TAG, ROW, 0xa1, 2);
   count(4, 1);
 
   /* The origin and the snapshot share the row, so it takes a place more. */
   write_row(ROWSTORE_ORIGIN, 0xb2);
-  read_row(ROWSTORE_ORIGIN, ROW, 0xb2);
-  read_row(TAG, ROW, 0xa1);
+  read_row(ROWSTORE_ORIGIN, ROW, 0xb2, 1);
+  read_row(TAG, ROW, 0xa1, 1);
   count(5, 1);
 
   refused_write();
 
   /* One place is free: row 0 is written, row 1 has none, row 3 has no turn. */
   write_border(TAG, ROWSTORE_PLACES_FULL, 1);
-  read_row(TAG, 0, 0xd0);
-  read_row(TAG, 1, 0);
+  read_row(TAG, 0, 0xd0, 1);
+  read_row(TAG, 1, 0, 2);
   count(6, 1);
 
   expect("delete", rowstore_delete(records, sizeof records, TAG), ROWSTORE_OK);
   printf("delete: version %d\n", TAG);
-  read_row(ROWSTORE_ORIGIN, ROW, 0xb2);
+  refused_read(TAG);
+  read_row(ROWSTORE_ORIGIN, 1, 0, 1);
+  read_row(ROWSTORE_ORIGIN, ROW, 0xb2, 1);
   count(4, 0);
 
   /* Rows that nobody shares are written where they are. */
   write_border(ROWSTORE_ORIGIN, ROWSTORE_OK, BORDER);
-  read_row(ROWSTORE_ORIGIN, 0, 0xd0);
-  read_row(ROWSTORE_ORIGIN, 1, 0xd1);
-  read_row(ROWSTORE_ORIGIN, ROW, 0xb2);
-  read_row(ROWSTORE_ORIGIN, 3, 0xd3);
+  read_row(ROWSTORE_ORIGIN, 0, 0xd0, 1);
+  read_row(ROWSTORE_ORIGIN, 1, 0xd1, 1);
+  read_row(ROWSTORE_ORIGIN, ROW, 0xb2, 1);
+  read_row(ROWSTORE_ORIGIN, 3, 0xd3, 1);
   count(4, 0);
   return EXIT_SUCCESS;
 }

@@ -37,7 +37,7 @@ static uint8_t records[MOST_RECORDS], places[MOST_PLACES];
 static uint8_t written[(ROWSTORE_MAX_BORDER + 1) * ROWSTORE_MAX_WIDTH];
 static uint8_t out[ROWSTORE_MAX_WIDTH];
 static uint16_t border[ROWSTORE_MAX_BORDER + 1];
-static size_t rows, width, count, row, used, snapshots, done;
+static size_t rows, width, count, row, used, snapshots, done, sharers;
 static size_t records_len, places_len, row_len, border_len, border_bytes;
 static uint16_t tag, source;
 static enum call next;
@@ -71,7 +71,7 @@ static void make_call(void) {
     break;
   case READ:
     answer = rowstore_read(records, records_len, places, places_len, tag, row,
-                           out, row_len);
+                           out, row_len, &sharers);
     break;
   case WRITE:
     answer = rowstore_write(records, records_len, places, places_len, tag, row,
@@ -177,11 +177,14 @@ static void put_border(uint16_t of, uint8_t due, size_t done_due) {
   expect("rows done", done, done_due);
 }
 
-static void get(uint16_t of, size_t at, uint8_t byte, uint8_t due) {
+static void get(uint16_t of, size_t at, uint8_t byte, uint8_t due,
+                size_t sharers_due) {
   tag = of;
   row = at;
+  sharers = PAINT;
   memset(out, PAINT, sizeof out);
   made(READ, due);
+  expect("sharers", sharers, sharers_due);
   for (size_t i = 0; i < width; i++) {
     expect("byte read", out[i], due == ROWSTORE_OK ? byte : PAINT);
   }
@@ -227,18 +230,21 @@ static void ways(void) {
   put(2, last, 0x12, ROWSTORE_OK);
   put(1, last, 0x21, ROWSTORE_OK);
   counted(rows + 2, 2, 1);
-  get(ROWSTORE_ORIGIN, last, 0x20, ROWSTORE_OK);
-  get(1, last, 0x21, ROWSTORE_OK);
-  get(2, last, 0x12, ROWSTORE_OK);
+  get(ROWSTORE_ORIGIN, last, 0x20, ROWSTORE_OK, 1);
+  get(1, last, 0x21, ROWSTORE_OK, 1);
+  get(2, last, 0x12, ROWSTORE_OK, 1);
   /* Tag 3 goes between the origin and the ghost. */
   take(ROWSTORE_ORIGIN, 3, ROWSTORE_OK);
   take(2, 4, ROWSTORE_OK);
   take(2, 5, ROWSTORE_OK);
+  get(4, last, 0x12, ROWSTORE_OK, 3);
   put(4, last, 0x14, ROWSTORE_OK);
+  get(5, last, 0x12, ROWSTORE_OK, 2);
   counted(rows + 3, 5, 1);
   /* Tag 2 leaves a ghost with two nodes, which goes with one of them. */
   drop(2, ROWSTORE_OK);
   counted(rows + 3, 4, 2);
+  get(5, last, 0x12, ROWSTORE_OK, 1);
   drop(4, ROWSTORE_OK);
   counted(rows + 2, 3, 1);
   /* The other ghost hangs on tag 3, and goes with tag 1. */
@@ -246,7 +252,7 @@ static void ways(void) {
   counted(rows + 2, 2, 1);
   drop(1, ROWSTORE_OK);
   counted(rows + 1, 1, 0);
-  get(5, last, 0x12, ROWSTORE_OK);
+  get(5, last, 0x12, ROWSTORE_OK, 1);
   drop(5, ROWSTORE_OK);
   counted(rows, 0, 0);
 }
@@ -270,9 +276,10 @@ static void borders(void) {
   line_up(moved, 0, 0);
   put_border(2, ROWSTORE_OK, 0);
   counted(rows + 2 * moved, 2, 1);
-  get(ROWSTORE_ORIGIN, moved - 1, 0x80, ROWSTORE_OK);
-  get(1, moved - 1, 0x81, ROWSTORE_OK);
-  get(2, moved - 1, 0x82, ROWSTORE_OK);
+  get(ROWSTORE_ORIGIN, moved - 1, 0x80, ROWSTORE_OK, 1);
+  get(1, moved - 1, 0x81, ROWSTORE_OK, 1);
+  get(2, moved - 1, 0x82, ROWSTORE_OK, 1);
+  get(2, rows - 1, 0x20, ROWSTORE_OK, 3);
   drop(2, ROWSTORE_OK);
   drop(1, ROWSTORE_OK);
   counted(rows, 0, 0);
@@ -303,15 +310,15 @@ static void refusals(void) {
   put(ROWSTORE_ORIGIN, last, 1, ROWSTORE_PLACES_FULL);
   put(UNKNOWN, 0, 1, ROWSTORE_UNKNOWN_TAG);
   put(alive, rows, 1, ROWSTORE_BAD_ROW);
-  get(UNKNOWN, 0, 1, ROWSTORE_UNKNOWN_TAG);
-  get(alive, rows, 1, ROWSTORE_BAD_ROW);
+  get(UNKNOWN, 0, 1, ROWSTORE_UNKNOWN_TAG, 0);
+  get(alive, rows, 1, ROWSTORE_BAD_ROW, 0);
   places_len--;
   put(alive, 0, 1, ROWSTORE_BAD_LENGTH);
-  get(alive, 0, 1, ROWSTORE_BAD_LENGTH);
+  get(alive, 0, 1, ROWSTORE_BAD_LENGTH, 0);
   right_lengths();
   row_len--;
   put(alive, 0, 1, ROWSTORE_BAD_LENGTH);
-  get(alive, 0, 1, ROWSTORE_BAD_LENGTH);
+  get(alive, 0, 1, ROWSTORE_BAD_LENGTH, 0);
   right_lengths();
   line_up(1, ROWSTORE_MAX_BORDER + 1, 1);
   put_border(alive, ROWSTORE_TOO_MANY_ROWS, 0);
@@ -337,7 +344,7 @@ static void refusals(void) {
 
 static void all_unsound(void) {
   take(ROWSTORE_ORIGIN, UNKNOWN, ROWSTORE_UNSOUND);
-  get(ROWSTORE_ORIGIN, 0, 1, ROWSTORE_UNSOUND);
+  get(ROWSTORE_ORIGIN, 0, 1, ROWSTORE_UNSOUND, 0);
   put(ROWSTORE_ORIGIN, 0, 1, ROWSTORE_UNSOUND);
   put_border(ROWSTORE_ORIGIN, ROWSTORE_UNSOUND, 0);
   drop(1, ROWSTORE_UNSOUND);
@@ -362,15 +369,15 @@ static void unsound(void) {
 static void empty(const size_t owned[ROWSTORE_MAX_SNAPSHOTS + 1]) {
   size_t last = rows - 1, left = count, alive = ROWSTORE_MAX_SNAPSHOTS;
   counted(left, alive, alive - 1);
-  get(ROWSTORE_MAX_SNAPSHOTS, 0, ROWSTORE_MAX_SNAPSHOTS, ROWSTORE_OK);
-  get(ROWSTORE_MAX_SNAPSHOTS, last, 0x20, ROWSTORE_OK);
+  get(ROWSTORE_MAX_SNAPSHOTS, 0, ROWSTORE_MAX_SNAPSHOTS, ROWSTORE_OK, 1);
+  get(ROWSTORE_MAX_SNAPSHOTS, last, 0x20, ROWSTORE_OK, alive + 1);
   put(ROWSTORE_MAX_SNAPSHOTS, 0, 0x30, ROWSTORE_OK);
   put(ROWSTORE_ORIGIN, 0, 0x31, ROWSTORE_OK);
-  get(ROWSTORE_MAX_SNAPSHOTS, 0, 0x30, ROWSTORE_OK);
-  get(ROWSTORE_ORIGIN, 0, 0x31, ROWSTORE_OK);
+  get(ROWSTORE_MAX_SNAPSHOTS, 0, 0x30, ROWSTORE_OK, 1);
+  get(ROWSTORE_ORIGIN, 0, 0x31, ROWSTORE_OK, 1);
   line_up(1, ROWSTORE_MAX_BORDER, 0x32);
   put_border(ROWSTORE_MAX_SNAPSHOTS, ROWSTORE_OK, ROWSTORE_MAX_BORDER);
-  get(ROWSTORE_MAX_SNAPSHOTS, 0, 0x32, ROWSTORE_OK);
+  get(ROWSTORE_MAX_SNAPSHOTS, 0, 0x32, ROWSTORE_OK, 1);
   counted(left, alive, alive - 1);
   for (uint16_t i = 1; i <= ROWSTORE_MAX_SNAPSHOTS; i++) {
     /* The odd ones first, then the even ones. */
@@ -378,6 +385,8 @@ static void empty(const size_t owned[ROWSTORE_MAX_SNAPSHOTS + 1]) {
     drop(of, ROWSTORE_OK);
     left -= owned[of];
     alive--;
+    /* The ghosts above those that are left read the last row too. */
+    get(ROWSTORE_ORIGIN, last, 0x20, ROWSTORE_OK, alive + 1);
     counted(left, alive, alive == 0 ? 0 : alive - 1);
   }
   expect("places left in use", left, rows);

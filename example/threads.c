@@ -18,9 +18,11 @@ struct store {
   uint8_t places[ROWSTORE_PLACES_SIZE(WIDTH, PLACES)];
 };
 
-/* What every row of every version must read: its first byte. */
+/* What every row of every living version must read: its first byte. Each write
+ * brings another one, so versions share a row if they read the same there. */
 struct copies {
   uint8_t first[VERSIONS][ROWS];
+  uint8_t alive[VERSIONS];
 };
 
 struct task {
@@ -52,6 +54,7 @@ static void open_store(struct store *s, struct copies *due) {
                        sizeof s->places, ROWS, WIDTH, PLACES),
          ROWSTORE_OK);
   memset(due, 0, sizeof *due);
+  due->alive[ROWSTORE_ORIGIN] = 1;
 }
 
 static void take(struct store *s, struct copies *due, uint16_t source,
@@ -60,6 +63,7 @@ static void take(struct store *s, struct copies *due, uint16_t source,
          rowstore_snapshot(s->records, sizeof s->records, source, tag),
          ROWSTORE_OK);
   memcpy(due->first[tag], due->first[source], sizeof due->first[tag]);
+  due->alive[tag] = 1;
 }
 
 static uint8_t put(struct store *s, uint16_t tag, size_t row, uint8_t first) {
@@ -100,9 +104,13 @@ static void write_border(struct store *s, struct copies *due, uint16_t tag,
 }
 
 static uint8_t get(const struct store *s, uint16_t tag, size_t row,
-                   uint8_t out[WIDTH]) {
-  return rowstore_read(s->records, sizeof s->records, s->places,
-                       sizeof s->places, tag, row, out, WIDTH);
+                   uint8_t out[WIDTH], size_t sharers_due) {
+  size_t sharers = SIZE_MAX;
+  uint8_t answer =
+      rowstore_read(s->records, sizeof s->records, s->places, sizeof s->places,
+                    tag, row, out, WIDTH, &sharers);
+  expect("sharers", sharers, sharers_due);
+  return answer;
 }
 
 /* A row that was never written is zero throughout. */
@@ -111,10 +119,15 @@ static void read_rows(const struct store *s, const struct copies *due,
   for (size_t row = 0; row < ROWS; row++) {
     uint8_t wanted[WIDTH] = {0};
     uint8_t out[WIDTH];
-    if (due->first[tag][row] != 0) {
-      fill(wanted, due->first[tag][row]);
+    uint8_t first = due->first[tag][row];
+    size_t sharers = 0;
+    if (first != 0) {
+      fill(wanted, first);
     }
-    expect("read", get(s, tag, row, out), ROWSTORE_OK);
+    for (unsigned i = 0; i < VERSIONS; i++) {
+      sharers += due->alive[i] && due->first[i][row] == first;
+    }
+    expect("read", get(s, tag, row, out, sharers), ROWSTORE_OK);
     expect("bytes that differ", memcmp(out, wanted, WIDTH) != 0, 0);
   }
 }
@@ -154,10 +167,11 @@ static void read_and_count(const struct store *s, const struct copies *due) {
 }
 
 /* Tag 1 goes, and the refusals say so. */
-static void take_down(struct store *s, const struct copies *due) {
+static void take_down(struct store *s, struct copies *due) {
   uint8_t out[WIDTH];
   size_t len = sizeof s->records;
   expect("delete", rowstore_delete(s->records, len, 1), ROWSTORE_OK);
+  due->alive[1] = 0;
   read_rows(s, due, ROWSTORE_ORIGIN);
   read_rows(s, due, 2);
   count(s, 6, 1);
@@ -165,7 +179,7 @@ static void take_down(struct store *s, const struct copies *due) {
          ROWSTORE_UNKNOWN_TAG);
   expect("write of tag 1", put(s, 1, 0, 1), ROWSTORE_UNKNOWN_TAG);
   expect("border of tag 1", put_border(s, 1, 1, 0), ROWSTORE_UNKNOWN_TAG);
-  expect("read of tag 1", get(s, 1, 0, out), ROWSTORE_UNKNOWN_TAG);
+  expect("read of tag 1", get(s, 1, 0, out, 0), ROWSTORE_UNKNOWN_TAG);
   expect("delete of tag 1", rowstore_delete(s->records, len, 1),
          ROWSTORE_UNKNOWN_TAG);
   count(s, 6, 1);

@@ -19,9 +19,10 @@
  *
  * Answers. Each call returns ROWSTORE_OK or the number of the first test that
  * refused it, in the order given with the call. A refusal changes no byte of
- * any buffer; the numbers that rowstore_count and rowstore_border set are 0
- * then. Only a border that is refused at one of its rows has changed
- * something: the rows before it are written, and their number is set.
+ * any buffer; the numbers that rowstore_read, rowstore_count and
+ * rowstore_border set are 0 then. Only a border that is refused at one of its
+ * rows has changed something: the rows before it are written, and their number
+ * is set.
  *
  * Every call but rowstore_open judges the records first: bytes that are not
  * those of a store are refused with ROWSTORE_UNSOUND, and so are records of the
@@ -116,6 +117,12 @@ uint8_t rowstore_snapshot(uint8_t *records, size_t records_len, uint16_t source,
  * tag      the version
  * row      the row, from 0
  * out      filled with the row; as many bytes as a row has
+ * sharers  set to how many living versions share the row, this one included:
+ *          1 if it is its own; 0 if refused
+ *
+ * Versions share a row if they read it from one place; equal bytes in two
+ * places are not shared. The number is the caller's, as every buffer, and is
+ * apart.
  *
  * Refusals, in order:
  *   ROWSTORE_UNSOUND      the records are not sound
@@ -125,7 +132,8 @@ uint8_t rowstore_snapshot(uint8_t *records, size_t records_len, uint16_t source,
  */
 uint8_t rowstore_read(const uint8_t *records, size_t records_len,
                       const uint8_t *places, size_t places_len, uint16_t tag,
-                      size_t row, uint8_t *out, size_t out_len);
+                      size_t row, uint8_t *out, size_t out_len,
+                      size_t *sharers);
 
 /* Writes a row of a version. No other version's rows change. A row that
  * another version shares takes one more place; any other is written where it

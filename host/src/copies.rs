@@ -61,15 +61,16 @@ impl Copies {
         ACCEPTED
     }
 
+    /// The row's bytes, and how many living versions share it.
     pub fn read(
         &self,
         places_len: usize,
         tag: u16,
         row: usize,
         out_len: usize,
-    ) -> Result<&[u8], u8> {
+    ) -> Result<(&[u8], usize), u8> {
         self.row_refusal(places_len, tag, row, out_len)?;
-        Ok(self.row(tag, row))
+        Ok((self.row(tag, row), self.sharers(tag, row)))
     }
 
     pub fn write(&mut self, places_len: usize, tag: u16, row: usize, bytes: &[u8]) -> u8 {
@@ -138,10 +139,16 @@ impl Copies {
         self.versions[&tag_a].marks[row] == self.versions[&tag_b].marks[row]
     }
 
+    /// How many living versions hold the mark that this one holds at the row, itself included.
+    pub fn sharers(&self, tag: u16, row: usize) -> usize {
+        let mark = self.versions[&tag].marks[row];
+        let holders = self.versions.values().filter(|v| v.marks[row] == mark);
+        holders.count()
+    }
+
     /// Whether any other living version shares the row with this one.
     pub fn shared(&self, tag: u16, row: usize) -> bool {
-        let mut others = self.versions.keys().filter(|&&other| other != tag);
-        others.any(|&other| self.shares(tag, other, row))
+        self.sharers(tag, row) > 1
     }
 
     pub fn tags(&self) -> Vec<u16> {

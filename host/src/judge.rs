@@ -122,6 +122,13 @@ impl Records {
         self.way_up(node).map_or(0, |way| way.len() - 1)
     }
 
+    /// Whether a ghost lies on the way from a node up to another one.
+    pub fn ghost_between(&self, low: usize, high: usize) -> bool {
+        let way = self.way_up(low).unwrap_or_default();
+        let end = way.iter().position(|&node| node == high);
+        end.is_some_and(|end| way[..end].iter().any(|&node| self.is_ghost(node)))
+    }
+
     fn in_use(&self, node: usize) -> bool {
         node < NODES && self.nodes[node].state != EMPTY
     }

@@ -61,13 +61,13 @@ impl Store for Plain {
         ACCEPTED
     }
 
-    fn read(records: &[u8], places: &[u8], tag: u16, row: usize, out: &mut [u8]) -> u8 {
+    fn read(records: &[u8], places: &[u8], tag: u16, row: usize, out: &mut [u8]) -> (u8, usize) {
         let mut tree = Tree::new();
         match tree.seek(records, places.len(), out.len(), tag, row) {
-            Err(refusal) => refusal,
+            Err(refusal) => (refusal, 0),
             Ok(sought) => {
                 out.copy_from_slice(&places[sought.measures.stretch(sought.place)]);
-                ACCEPTED
+                (ACCEPTED, tree.readers(sought.source, sought.owners))
             }
         }
     }
@@ -412,7 +412,7 @@ impl Tree {
         if places[measures.stretch(place)] == *bytes {
             return ACCEPTED;
         }
-        if self.others_read(sought.source, sought.version, sought.owners) {
+        if self.readers(sought.source, sought.owners) > 1 {
             let Some(entry) = free_entry(records) else {
                 return NO_PLACE;
             };
@@ -511,23 +511,23 @@ impl Tree {
         number(records, ROWS) as usize + entry
     }
 
-    /// Whether a living version other than this one gets its row at or through the source.
-    fn others_read(&self, source: usize, version: usize, owners: u128) -> bool {
+    /// How many living versions get their row at a rank or through it.
+    fn readers(&self, top: usize, owners: u128) -> usize {
         let mut through = [false; NODES];
-        through[source] = true;
-        let mut others = source != version && !has(self.ghosts, source);
-        for rank in source + 1..self.count {
+        through[top] = true;
+        let mut readers = !has(self.ghosts, top) as usize;
+        for rank in top + 1..self.count {
             let inherits = !has(owners, rank) & through[self.above[rank] as usize];
             through[rank] = inherits;
-            others |= inherits & (rank != version) & !has(self.ghosts, rank);
+            readers += (inherits & !has(self.ghosts, rank)) as usize;
         }
-        others
+        readers
     }
 
     /// The rank for a snapshot's new entry: its own, unless versions below it read on through it.
     /// For those the node is kept as a ghost, and the tag passes to a new child.
     fn new_owner(&mut self, records: &mut [u8], version: usize, owners: u128) -> usize {
-        if !self.others_read(version, version, owners) {
+        if self.readers(version, owners) == 1 {
             return version;
         }
         let node = self.node[version] as usize;

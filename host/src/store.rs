@@ -40,7 +40,8 @@ pub trait Store {
 
     fn snapshot(records: &mut [u8], source: u16, tag: u16) -> u8;
 
-    fn read(records: &[u8], places: &[u8], tag: u16, row: usize, out: &mut [u8]) -> u8;
+    /// The answer, and how many living versions share the row, this one included.
+    fn read(records: &[u8], places: &[u8], tag: u16, row: usize, out: &mut [u8]) -> (u8, usize);
 
     fn write(records: &mut [u8], places: &mut [u8], tag: u16, row: usize, bytes: &[u8]) -> u8;
 
@@ -87,6 +88,7 @@ mod linked {
             row: usize,
             out: *mut u8,
             out_len: usize,
+            sharers: *mut usize,
         ) -> u8;
         fn rowstore_write(
             records: *mut u8,
@@ -134,11 +136,21 @@ mod linked {
             unsafe { rowstore_snapshot(records.as_mut_ptr(), records.len(), source, tag) }
         }
 
-        fn read(records: &[u8], places: &[u8], tag: u16, row: usize, out: &mut [u8]) -> u8 {
+        fn read(
+            records: &[u8],
+            places: &[u8],
+            tag: u16,
+            row: usize,
+            out: &mut [u8],
+        ) -> (u8, usize) {
+            // It must be set by the call, to 0 if it refuses.
+            let mut sharers = usize::MAX;
             let (r, r_len) = (records.as_ptr(), records.len());
             let (p, p_len) = (places.as_ptr(), places.len());
             let (o, o_len) = (out.as_mut_ptr(), out.len());
-            unsafe { rowstore_read(r, r_len, p, p_len, tag, row, o, o_len) }
+            let answer =
+                unsafe { rowstore_read(r, r_len, p, p_len, tag, row, o, o_len, &mut sharers) };
+            (answer, sharers)
         }
 
         fn write(records: &mut [u8], places: &mut [u8], tag: u16, row: usize, bytes: &[u8]) -> u8 {

@@ -2,13 +2,13 @@
 
 mod common;
 
-use common::calls::{Call, Outcome};
+use common::calls::{read, Call, Outcome};
 use common::tally::Tally;
 use common::trial::{Care, Trial};
 use rowstore_host::copies::Copies;
 use rowstore_host::dice::Dice;
 use rowstore_host::judge::place_of;
-use rowstore_host::layout::Measures;
+use rowstore_host::layout::{Measures, EMPTY, STATES};
 use rowstore_host::store::Store;
 use std::hint::black_box;
 
@@ -112,8 +112,10 @@ fn usual<S: Store>(title: &str) -> Trial<S> {
 }
 
 fn listed_cases<S: Store>() {
-    let cases: [fn() -> Tally; 14] = [
+    let cases: [fn() -> Tally; 16] = [
         rows_after_opening::<S>,
+        sharers_of_rows::<S>,
+        refused_reads::<S>,
         tags_of_a_snapshot::<S>,
         write_above_a_reader::<S>,
         full_store::<S>,
@@ -143,9 +145,79 @@ fn require_all(title: &str, tallies: &[Tally], answers: &[u8]) {
 
 fn rows_after_opening<S: Store>() -> Tally {
     let mut trial = usual::<S>("rows after opening");
-    assert_eq!(trial.read(0, 3), 0);
+    assert_eq!(trial.read(0, 3), (0, 1));
     assert_eq!(trial.copies.row(0, 3), [0; 8]);
-    assert_eq!(trial.read(0, 4), 3);
+    assert_eq!(trial.read(0, 4), (3, 0));
+    trial.tally
+}
+
+/// Reads every row of the versions; each has as many sharers as stand for it.
+fn expect_sharers<S: Store>(trial: &mut Trial<S>, due: &[(u16, [usize; 4])]) {
+    for &(tag, numbers) in due {
+        for (row, number) in numbers.into_iter().enumerate() {
+            assert_eq!(trial.read(tag, row), (0, number), "tag {tag} row {row}");
+        }
+    }
+}
+
+fn sharers_of_rows<S: Store>() -> Tally {
+    let mut trial = usual::<S>("sharers of rows");
+    expect_sharers(&mut trial, &[(0, [1; 4])]);
+    assert_eq!(trial.snapshot(0, 7), 0);
+    expect_sharers(&mut trial, &[(0, [2; 4]), (7, [2; 4])]);
+    assert_eq!(trial.snapshot(7, 8), 0);
+    let all = [(0, [3; 4]), (7, [3; 4]), (8, [3; 4])];
+    expect_sharers(&mut trial, &all);
+    // Bytes that are there already change no number.
+    assert_eq!(trial.write(7, 0, 0), 0);
+    expect_sharers(&mut trial, &all);
+    assert_eq!(trial.write(7, 0, 0x71), 0);
+    let moved = [(0, [2, 3, 3, 3]), (7, [1, 3, 3, 3]), (8, [2, 3, 3, 3])];
+    expect_sharers(&mut trial, &moved);
+    assert_eq!(trial.write(7, 0, 0x71), 0);
+    assert_eq!(trial.write(8, 0, 0), 0);
+    expect_sharers(&mut trial, &moved);
+    // Nor do bytes that others have in another place.
+    assert_eq!(trial.write(7, 0, 0), 0);
+    expect_sharers(&mut trial, &moved);
+    assert_eq!(trial.delete(7), 0);
+    expect_sharers(&mut trial, &[(0, [2; 4]), (8, [2; 4])]);
+    assert_eq!(trial.delete(8), 0);
+    expect_sharers(&mut trial, &[(0, [1; 4])]);
+    trial.tally
+}
+
+/// Whatever refuses a read, its number is 0; each refusal goes before the later ones.
+fn refused_reads<S: Store>() -> Tally {
+    let mut trial = usual::<S>("refused reads");
+    assert_eq!(trial.snapshot(0, 7), 0);
+    assert_eq!(trial.read(7, 0), (0, 2));
+    assert_eq!(trial.read(9, 0), (21, 0));
+    assert_eq!(trial.read(7, 4), (3, 0));
+    assert_eq!(trial.read(9, usize::MAX), (3, 0));
+    // Lengths that are wrong: that of the places, or that of the buffer to be filled.
+    for (tag, row) in [(7, 0), (9, 4)] {
+        for (places_off, out_off) in [(1, 0), (-1, 0), (0, 1), (0, -1), (0, -8)] {
+            let mut refused = trial.read_of(tag, row);
+            if let Call::Read {
+                places_len,
+                out_len,
+                ..
+            } = &mut refused
+            {
+                *places_len = places_len.wrapping_add_signed(places_off);
+                *out_len = out_len.wrapping_add_signed(out_off);
+            }
+            assert_eq!(trial.call(&refused), Outcome::with_numbers(2, &[0]));
+            trial.misfit(&refused, USUAL.records_len() - 1);
+        }
+    }
+    let mut unsound = trial.records().to_vec();
+    unsound[STATES] = EMPTY;
+    for (tag, row, out_len) in [(7, 0, 8), (9, 4, 9)] {
+        let got = read::<S>(&unsound, trial.places(), tag, row, out_len);
+        assert_eq!(got, Outcome::with_numbers(20, &[0]));
+    }
     trial.tally
 }
 
@@ -163,12 +235,12 @@ fn write_above_a_reader<S: Store>() -> Tally {
     assert_eq!(trial.snapshot(0, 7), 0);
     assert_eq!(trial.snapshot(7, 8), 0);
     assert_eq!(trial.write(7, 0, 0x71), 0);
-    assert_eq!(trial.read(8, 0), 0);
+    assert_eq!(trial.read(8, 0), (0, 2));
     assert_eq!(trial.copies.row(8, 0), [0; 8]);
     assert_eq!(place_of(trial.records(), 8, 0), Some(0));
     assert_eq!(trial.copies.count(), (5, 2));
     assert_eq!(trial.delete(8), 0);
-    assert_eq!(trial.read(7, 0), 0);
+    assert_eq!(trial.read(7, 0), (0, 1));
     assert_eq!(trial.copies.row(7, 0), [0x71; 8]);
     assert_eq!(trial.copies.count(), (5, 1));
     trial.tally
@@ -257,9 +329,9 @@ fn border_without_a_place<S: Store>() -> Tally {
     assert_eq!(trial.snapshot(0, 7), 0);
     let rows = [(3, 0x73), (1, 0x71), (2, 0x72), (0, 0x70), (1, 0x11)];
     assert_eq!(trial.border(7, &rows), (24, 2));
-    let bytes = [0, 0x71, 0, 0x73];
-    for (row, byte) in bytes.into_iter().enumerate() {
-        assert_eq!(trial.read(7, row), 0);
+    let due = [(0, 2), (0x71, 1), (0, 2), (0x73, 1)];
+    for (row, (byte, sharers)) in due.into_iter().enumerate() {
+        assert_eq!(trial.read(7, row), (0, sharers));
         assert_eq!(trial.copies.row(7, row), [byte; 8]);
         assert_eq!(trial.copies.row(0, row), [0; 8]);
     }
@@ -345,14 +417,14 @@ fn printed_example<S: Store>() {
     let mut trial = usual::<S>("printed example");
     assert_eq!(trial.snapshot(0, 7), 0);
     assert_eq!(trial.write(0, 2, 0xa1), 0);
-    assert_eq!(trial.read(7, 2), 0);
+    assert_eq!(trial.read(7, 2), (0, 1));
     assert_eq!(trial.copies.row(7, 2), [0; 8]);
-    assert_eq!(trial.read(0, 2), 0);
+    assert_eq!(trial.read(0, 2), (0, 1));
     assert_eq!(trial.copies.row(0, 2), [0xa1; 8]);
     assert_eq!(trial.copies.count(), (5, 1));
     assert_eq!(trial.delete(7), 0);
     assert_eq!(trial.copies.count(), (4, 0));
-    assert_eq!(trial.read(7, 0), 21);
+    assert_eq!(trial.read(7, 0), (21, 0));
     let title = format!("printed example, {}", S::NAME);
     trial.tally.print(&title);
     trial.tally.require(&title, &[0, 21]);
@@ -414,7 +486,7 @@ fn played<S: Store>(title: &str, steps: &str) -> Tally {
             (".=", &[tag, row, byte]) => trial.write(tag, row.into(), byte as u8),
             (".?", &[tag, row, byte]) => {
                 assert_eq!(trial.copies.row(tag, row.into()), [byte as u8; 8], "{at}");
-                trial.read(tag, row.into())
+                trial.read(tag, row.into()).0
             }
             ("-", &[tag]) => trial.delete(tag),
             ("/", &[used, snapshots]) => {
@@ -548,10 +620,10 @@ fn compare_at<S: Store>(call: &Call, buffers: &mut [Lent; 4], copies: &mut Copie
     let [lent, lent_places, lent_row, lent_rows] = buffers.each_mut().map(Lent::bytes);
     let got = match call {
         Call::Read { tag, row, .. } => {
-            let answer = S::read(lent, lent_places, *tag, *row, lent_row);
+            let (answer, sharers) = S::read(lent, lent_places, *tag, *row, lent_row);
             Outcome {
                 row: lent_row.to_vec(),
-                ..Outcome::plain(answer)
+                ..Outcome::with_numbers(answer, &[sharers])
             }
         }
         Call::Write {

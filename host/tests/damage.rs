@@ -138,6 +138,8 @@ struct Findings<S> {
     calls: usize,
     /// Outcomes compared with the full copies of sound records.
     compared: usize,
+    /// Of these, the reads of a row that several versions share.
+    shared: usize,
     store: PhantomData<S>,
 }
 
@@ -149,6 +151,7 @@ impl<S: Store> Findings<S> {
             sound: 0,
             calls: 0,
             compared: 0,
+            shared: 0,
             store: PhantomData,
         }
     }
@@ -168,6 +171,9 @@ impl<S: Store> Findings<S> {
                 let wanted = call.on_copies(&mut adopted(parsed, &sample.places));
                 assert_eq!(got, wanted, "{title}: {call:?}");
                 self.compared += 1;
+                if let Call::Read { .. } = call {
+                    self.shared += (got.numbers[0] > 1) as usize;
+                }
             }
         }
         is_sound
@@ -181,13 +187,16 @@ impl<S: Store> Findings<S> {
             sound,
             calls,
             compared,
+            shared,
             ..
         } = self;
         let unsound = tried - sound;
         println!("{title}: {tried} records tried, {sound} sound, {unsound} unsound");
         println!("  {calls} calls, {compared} of them compared with full copies");
+        println!("  {shared} of these read a shared row");
         assert!(*sound > 0 && unsound > 0, "{title}: one verdict only");
         assert!(*compared > 0, "{title}: nothing compared");
+        assert!(*shared > 0, "{title}: no shared row read");
     }
 }
 

@@ -2,7 +2,7 @@
 
 mod common;
 
-use common::calls::{Habit, Source};
+use common::calls::{read, Habit, Source};
 use common::tally::Tally;
 use common::trial::{Care, Trial};
 use rowstore_host::dice::Dice;
@@ -10,8 +10,8 @@ use rowstore_host::layout::Measures;
 use rowstore_host::store::Store;
 
 const SMALL_SEEDS: u64 = 1200;
-/// At the end of a large history the store reads every row; a larger stride reads fewer.
-const STRIDE: usize = 1;
+/// At the end of a large history each version reads one row of this many, where there are as many.
+const STRIDE: usize = 32;
 
 const HABITS: [Habit; 5] = [
     Habit::MIXED,
@@ -65,6 +65,16 @@ const SHAPES: [&str; 7] = [
     "node with several children under a ghost",
 ];
 
+/// What kinds of read must have been met.
+const READS: [&str; 6] = [
+    "refused",
+    "a row of its own",
+    "a row of two",
+    "a row of several",
+    "a row of all 65 versions",
+    "a row read past a ghost",
+];
+
 /// To what kinds of row equal bytes must have been written.
 const EQUAL_WRITES: [&str; 5] = [
     "a row of its own",
@@ -96,7 +106,7 @@ const BORDERS: [&str; 16] = [
 
 const REFUSALS: [u8; 10] = [2, 3, 4, 5, 20, 21, 22, 23, 24, 25];
 
-for_each_store!(small_stores, large_stores, deep_chains);
+for_each_store!(small_stores, large_stores, deep_chains, shared_by_all);
 
 /// Many seeds at small measures; everything is compared after every call.
 fn small_stores<S: Store>() {
@@ -124,6 +134,7 @@ fn small_stores<S: Store>() {
     tally.print(&title);
     tally.require(&title, &REFUSALS);
     tally.require_met(&title, "deletes", &SHAPES);
+    tally.require_met(&title, "reads", &READS);
     tally.require_met(&title, "equal bytes written", &EQUAL_WRITES);
     tally.require_met(&title, "borders", &BORDERS);
     assert!(tally.snapshots == 64 && tally.ghosts >= 4, "{title}");
@@ -148,19 +159,20 @@ fn large_stores<S: Store>() {
             ..MANY
         };
         let care = Care::Sample {
-            rows: 2,
+            rows: 1,
             judge_every: 100,
         };
         let title = format!("seed {seed}, large, {measures:?}");
         let mut trial = Trial::<S>::open(&title, measures, care);
         trial.draw(&mut dice, &habit);
-        trial.compare_all(STRIDE);
+        trial.compare_all(STRIDE.min(rows));
         tally.add(&trial.tally);
     }
     let title = format!("large histories, {}, seeds 0 to 4", S::NAME);
     tally.print(&title);
     tally.require(&title, &REFUSALS);
     tally.require_met(&title, "deletes", &SHAPES[..4]);
+    tally.require_met(&title, "reads", &READS);
     tally.require_met(&title, "equal bytes written", &EQUAL_WRITES);
     tally.require_met(&title, "borders", &BORDERS[..15]);
     assert!(tally.snapshots == 64 && tally.full > 0, "{title}");
@@ -199,4 +211,53 @@ fn deep_chains<S: Store>() {
     tally.print(&title);
     tally.require(&title, &[0, 21, 23]);
     assert!(tally.depth >= 64, "{title}");
+}
+
+/// The numbers of sharers that the store reads at a row, for every living version.
+fn sharers<S: Store>(trial: &Trial<S>, row: usize) -> Vec<usize> {
+    let width = trial.copies.measures.width;
+    let number = |tag| read::<S>(trial.records(), trial.places(), tag, row, width).numbers[0];
+    trial.copies.tags().into_iter().map(number).collect()
+}
+
+/// All 65 versions share every row; then one writes, and others part, which leaves ghosts between.
+fn shared_by_all<S: Store>() {
+    const WRITER: u16 = 20;
+    let mut tally = Tally::default();
+    for shape in ["all of the origin", "a chain", "two of each"] {
+        let title = format!("shared by all, {shape}");
+        let mut trial = Trial::<S>::open(&title, Measures::of(2, 4, 6), Care::Whole);
+        for tag in 1..=64 {
+            let source = match shape {
+                "all of the origin" => 0,
+                "a chain" => tag - 1,
+                _ => tag / 2,
+            };
+            assert_eq!(trial.snapshot(source, tag), 0, "{title}");
+        }
+        assert_eq!(trial.write(WRITER, 0, 0), 0, "{title}");
+        assert_eq!(sharers(&trial, 0), [65; 65], "{title}");
+        assert_eq!(sharers(&trial, 1), [65; 65], "{title}");
+        assert_eq!(trial.read(64, 1), (0, 65), "{title}");
+        assert_eq!(trial.write(WRITER, 0, 1), 0, "{title}");
+        let mut tags = trial.copies.tags();
+        for gone in (1..=32).filter(|&tag| tag != WRITER) {
+            let others = |&tag: &u16| if tag == WRITER { 1 } else { tags.len() - 1 };
+            let due: Vec<usize> = tags.iter().map(others).collect();
+            assert_eq!(sharers(&trial, 0), due, "{title}, before {gone} parts");
+            assert_eq!(sharers(&trial, 1), vec![tags.len(); tags.len()], "{title}");
+            assert_eq!(trial.delete(gone), 0, "{title}");
+            tags.retain(|&tag| tag != gone);
+        }
+        assert_eq!(trial.read(WRITER, 0), (0, 1), "{title}");
+        assert_eq!(trial.read(WRITER, 1), (0, 34), "{title}");
+        assert_eq!(trial.read(0, 0), (0, 33), "{title}");
+        tally.add(&trial.tally);
+    }
+    let title = format!("shared by all, {}", S::NAME);
+    tally.print(&title);
+    tally.require(&title, &[0]);
+    tally.require_met(&title, "reads", &READS[4..]);
+    // A node with two others below it cannot go with its version.
+    assert!(tally.ghosts >= 30, "{title}");
 }

@@ -63,10 +63,12 @@ fn hexadecimal(bytes: &[u8]) -> String {
     bytes.iter().map(|byte| format!("{byte:02x}")).collect()
 }
 
-/// What streams met: how often each answer, and writes of equal bytes to shared rows, in a full store or not.
+/// What streams met: how often each answer, reads by their number of sharers, and writes of equal bytes to shared
+/// rows, in a full store or not.
 #[derive(Debug, Default)]
 struct Seen {
     answers: BTreeMap<u8, usize>,
+    sharers: BTreeMap<usize, usize>,
     equal: usize,
     equal_when_full: usize,
 }
@@ -74,6 +76,10 @@ struct Seen {
 impl Seen {
     fn answer(&mut self, answer: u8) {
         *self.answers.entry(answer).or_default() += 1;
+    }
+
+    fn read(&mut self, sharers: usize) {
+        *self.sharers.entry(sharers).or_default() += 1;
     }
 
     fn write(&mut self, copies: &Copies, tag: u16, row: usize, bytes: &[u8]) {
@@ -97,7 +103,10 @@ fn answered(copies: &mut Copies, kind: u8, operands: &[u8], seen: &mut Seen) -> 
         2 => {
             let row = usize::from(number(&operands[2..]));
             match copies.read(PLACES_LEN, number(operands), row, SHELF.width) {
-                Ok(bytes) => (0, hexadecimal(bytes)),
+                Ok((bytes, sharers)) => {
+                    seen.read(sharers);
+                    (0, format!("{} {sharers}", hexadecimal(bytes)))
+                }
                 Err(refusal) => (refusal, dash),
             }
         }
@@ -209,6 +218,9 @@ fn drawn_streams() {
         assert!(met, "no answer {answer} in {seen:?}");
     }
     assert!(seen.equal > 0 && seen.equal_when_full > 0, "{seen:?}");
+    let met = |sharers| seen.sharers.contains_key(&sharers);
+    let more = seen.sharers.range(3..).next().is_some();
+    assert!(met(1) && met(2) && more, "{seen:?}");
     println!("drawn streams: seeds 0 to {}, {seen:?}", SEEDS - 1);
 }
 
@@ -226,4 +238,20 @@ fn lengths_of_streams() {
     compare(&rows, "only reads", &mut seen);
     assert!(seen.answers[&8] == 3 && seen.answers[&0] > 8000, "{seen:?}");
     println!("lengths of streams: {seen:?}");
+}
+
+/// Snapshots up to the last that is accepted, with a read after each, and one more of both.
+#[test]
+fn every_number_of_sharers() {
+    let mut seen = Seen::default();
+    let mut stream = vec![2, 0, 0, 0, 3];
+    for tag in 1..=65 {
+        stream.extend([1, 0, 0, 0, tag]);
+        stream.extend([2, 0, tag, 0, 3]);
+    }
+    compare(&stream, "65 snapshots", &mut seen);
+    let once = (1..=65).map(|sharers| (sharers, 1)).collect();
+    assert_eq!(seen.sharers, once, "{seen:?}");
+    assert!(seen.answers[&23] == 1 && seen.answers[&21] == 1, "{seen:?}");
+    println!("every number of sharers: {seen:?}");
 }

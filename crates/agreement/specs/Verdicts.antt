@@ -1,9 +1,9 @@
 -- What an accepted call has passed; under agreement the map gives the model's verdict, counts and answer. Assumes nothing.
-use mathlib.Core.Path.{_≡_, refl, ap, ap₂}
+use mathlib.Core.Path.{_≡_, refl, ap₂}
 use mathlib.Core.Logic.{_≢_}
 use mathlib.Core.Bool.{Bool, true, false, not, _&&_}
 use mathlib.Core.List.{List, [], _∷_}
-use mathlib.Core.Option.{Option, none, some}
+use mathlib.Core.Option.{none}
 use Prim.Native.Nat.{ℕ}
 use native.Mathlib.Omega.{arith}
 use lib.Dec.{leb}
@@ -11,13 +11,13 @@ use borrow.Author.Tests.{eqb-false, leb-false, not-false}
 use Rattle.basics.specs.Equal.{equal}
 use Rattle.measures.specs.declared.Size.{Size}
 use Rattle.model.specs.Call.{Single, snapshot, read, write, delete, count, one}
-use Rattle.answers.specs.Answers.{Refusal, places-full, row, counts, refusedOf}
+use Rattle.answers.specs.Answers.{places-full, row, counts, refusedOf}
 use Rattle.model.specs.Model.{Model, tests, gives, accepted, verdict, answer}
-use Rattle.answers.specs.Tests.{Tests, orElse, refusal, unless}
-use Rattle.answers.specs.Laws.{refusal-same}
+use Rattle.answers.specs.Tests.{Tests, orElse, refusal}
+use Rattle.answers.specs.Laws.{unless-same, refusal-same}
 use Rattle.copies.specs.Copies.{Cell, alive, snapshotsAlive, Live}
 use Rattle.copies.specs.Counting.{snapshots-tags}
-use Rattle.maps.specs.Keeping.{used-same, shared-same}
+use Rattle.maps.specs.Keeping.{used-same, shared-same, sharers-same}
 use Rattle.agreement.specs.Agree.{RowMap, mapVerdict, mapAnswer, Agree}
 
 -- none of the tests holds
@@ -51,10 +51,6 @@ module _ (z : Size) (tags : List ℕ) (f : Cell → ℕ) (g : Cell → List ℕ)
   unfolding tests
   delete-passed t e = eqb-false t 0 (none-passed (tests z tags f g (delete t)) e .0)
 
-unless-same : {A : Type 0} (v : Option Refusal) (f : Refusal → A) {x y : A} → (v ≡ none → x ≡ y) → unless v f x ≡ unless v f y
-unless-same none f h = h refl
-unless-same (some r) f h = refl
-
 module _ (z : Size) {m : RowMap} {s : Model} (a : Agree z m s) where
   living-same : (t : ℕ) → alive (m .tags) t ≡ alive (s .snapshots) t
   living-same = a .rows .living
@@ -76,7 +72,9 @@ module _ (z : Size) {m : RowMap} {s : Model} (a : Agree z m s) where
   accepted-same : (c : Single) → verdict z s c ≡ none → accepted z (m .tags) (m .place) (λ d. m .content (m .place d)) c ≡ accepted z (s .snapshots) (s .rows .mark) (s .rows .content) c
   unfolding accepted verdict
   accepted-same (snapshot u t) e = refl
-  accepted-same (read t r) e = ap row (a .rows .content (t, r) (read-passed z (s .snapshots) (s .rows .mark) (s .rows .content) t r e))
+  accepted-same (read t r) e =
+      let l = read-passed z (s .snapshots) (s .rows .mark) (s .rows .content) t r e in
+      ap₂ row (a .rows .content (t, r) l) (sharers-same (z .rows) (a .rows) t r l)
   accepted-same (write t r bs) e = refl
   accepted-same (delete t) e = refl
   accepted-same count e = ap₂ counts (used-same (z .rows) (a .rows)) snapshots-same

@@ -36,9 +36,9 @@ handed number bytes numbers = record { number = number; bytes = bytes; numbers =
 abbrev pub done : Answer
 done = handed 0 [] []
 
--- the bytes that were read
-abbrev pub row : List ℕ → Answer
-row bytes = handed 0 bytes []
+-- the bytes that were read, and how many living versions share the row
+abbrev pub row : List ℕ → ℕ → Answer
+row bytes sharers = handed 0 bytes (sharers ∷ [])
 
 -- places in use, snapshots alive
 abbrev pub counts : ℕ → ℕ → Answer

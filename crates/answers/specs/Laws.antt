@@ -36,6 +36,11 @@ pub unless-made : {A B : Type 0} (f : A → B) (v : Option Refusal) (old new : A
 unless-made f none old new = refl
 unless-made f (some r) old new = refl
 
+-- and need be the same only where it is accepted
+pub unless-same : {A : Type 0} (v : Option Refusal) (f : Refusal → A) {x y : A} → (v ≡ none → x ≡ y) → unless v f x ≡ unless v f y
+unless-same none f h = h refl
+unless-same (some r) f h = refl
+
 -- no refusal has the number 0
 pub number-some : (r : Refusal) → number r ≡ 0 → ⊥
 number-some bad-size e = omega (arith, e)

@@ -17,11 +17,15 @@ pub record Copies (A : Type 0) : Type 0 where
   -- the next mark: every mark given so far is below it
   pub next : ℕ
 
--- Lists: some element passes; how many different values f has on it
+-- Lists: some element passes; those that pass; how many different values f has on it
 
 unfoldable pub any : {A : Type 0} → (A → Bool) → List A → Bool
 any p [] = false
 any p (x ∷ xs) = p x || any p xs
+
+unfoldable pub only : {A : Type 0} → (A → Bool) → List A → List A
+only p [] = []
+only p (x ∷ xs) = cond (p x) (x ∷ only p xs) (only p xs)
 
 unfoldable pub different : {A : Type 0} → (A → ℕ) → List A → ℕ
 different f [] = 0
@@ -59,6 +63,10 @@ cells n (t ∷ ts) = rowsOf t n (cells n ts)
 
 unfoldable pub shared : List ℕ → (Cell → ℕ) → ℕ → ℕ → Bool
 shared tags mark t r = any (λ u. not (eqb u t) && eqb (mark (u, r)) (mark (t, r))) (living tags)
+
+-- how many living versions have at row r the mark that version t has there
+unfoldable pub sharers : List ℕ → (Cell → ℕ) → ℕ → ℕ → ℕ
+sharers tags mark t r = different (λ u. u) (only (λ u. eqb (mark (u, r)) (mark (t, r))) (living tags))
 
 unfoldable pub placesUsed : ℕ → List ℕ → (Cell → ℕ) → ℕ
 placesUsed n tags mark = different mark (cells n (living tags))

@@ -9,7 +9,7 @@ use native.Mathlib.Omega.{arith}
 use lib.Dec.{eqb}
 use borrow.Author.Tests.{eq-eqb, ne-eqb, eqb-true}
 use Rattle.basics.specs.Count.{one, count}
-use Rattle.basics.specs.CountLaws.{sum-cong, sum-add, sum-zero, one-yes, one-no, count-cong, count-eqb}
+use Rattle.basics.specs.CountLaws.{sum-cong, sum-add, sum-zero, one-yes, one-no, count-two, count-has, count-pair, count-cong, count-eqb}
 use Rattle.basics.specs.Decide.{Decides, decides-true, holds}
 use Rattle.copies.specs.Copies.{any, different}
 use Rattle.copies.specs.Members.{In, test-iff, eqb-iff, any-yes, any-some, any-same, any-members}
@@ -65,6 +65,24 @@ module _ {A : Type 0} (f : A → ℕ) where
   under-roof [] x i = absurd i
   under-roof (y ∷ ys) x (inl e) = omega (arith, ap f e)
   under-roof (y ∷ ys) x (inr i) = omega (arith, under-roof ys x i)
+
+  -- a member is one; two members with different values are two, and where there are two, there are such members
+  pub different-some : (xs : List A) (x : A) → In x xs → 0 < different f xs
+  different-some xs x i = omega (arith, among-below (roof xs) xs (under-roof xs), count-has (among xs) (roof xs) (f x) (under-roof xs x i) (any-yes (λ y. eqb (f x) (f y)) xs x i (eq-eqb (f x) (f x) refl)))
+
+  pub different-two : (xs : List A) (x y : A) → In x xs → In y xs → f x ≢ f y → 1 < different f xs
+  different-two xs x y i j d = omega (
+    arith,
+    among-below (roof xs) xs (under-roof xs),
+    count-two (among xs) (roof xs) (f x) (f y) (under-roof xs x i) (under-roof xs y j) d (any-yes (λ w. eqb (f x) (f w)) xs x i (eq-eqb (f x) (f x) refl)) (any-yes (λ w. eqb (f y) (f w)) xs y j (eq-eqb (f y) (f y) refl)),
+  )
+
+  pub two-different : (xs : List A) → 1 < different f xs → (x : A) × (y : A) × In x xs × In y xs × (f x ≢ f y)
+  two-different xs l =
+      let (v, w, k, m, d, p, q) = count-pair (among xs) (roof xs) (omega (arith, among-below (roof xs) xs (under-roof xs))) in
+      let (x, i, e) = any-some (λ y. eqb v (f y)) xs p in
+      let (y, j, h) = any-some (λ y. eqb w (f y)) xs q in
+      (x, y, i, j, λ s. d (eqb-true v (f x) e ∙ s ∙ sym (eqb-true w (f y) h)))
 
   -- neither order nor repetition counts
   pub different-members : (xs ys : List A) → ((x : A) → In x xs ↔ In x ys) → different f xs ≡ different f ys

@@ -116,6 +116,7 @@ fn read<'a>(
     call: Call,
 ) -> Done {
     let mut answer: u8 = 0;
+    let mut sharers: usize = 0;
     queries::read(
         size,
         tree,
@@ -125,6 +126,7 @@ fn read<'a>(
         call.tag,
         Row(call.row),
         &mut answer,
+        &mut sharers,
     );
     ended(answer, tree)
 }

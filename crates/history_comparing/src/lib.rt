@@ -26,6 +26,8 @@ pub const REFUSAL: u8 = 8;
 
 pub const DONE: u8 = 9;
 
+pub const SHARERS: u8 = 10;
+
 pub fn first(a: u8, b: u8) -> u8 {
     if a != 0 {
         return a;
@@ -53,7 +55,7 @@ fn counts<'a>(size: Size, tree: Tree, node: &'a [u8], row: &'a [u16], copies: &[
 fn same_bytes(
     width: usize,
     copies: &[usize],
-    tag: u16,
+    slot: usize,
     r: usize,
     answer: u8,
     bytes: &[u8],
@@ -64,11 +66,18 @@ fn same_bytes(
     if bytes.len() != width {
         return false;
     }
-    let slot = history_slots::slot_of(copies, tag);
     history_slots::holds(copies, slot, r, bytes, width)
 }
 
-// Reads a row from both.
+// How many share a row, or 0 of a row that was refused.
+fn same_sharers(copies: &[usize], slot: usize, r: usize, answer: u8, sharers: usize) -> bool {
+    if answer != 0 {
+        return sharers == 0;
+    }
+    sharers == history_slots::sharers(copies, slot, r)
+}
+
+// Reads a row from both. The number of sharers is not 0 at first, so that a refusal has to set it.
 fn one_row<'a>(
     size: Size,
     tree: Tree,
@@ -80,11 +89,25 @@ fn one_row<'a>(
     r: usize,
 ) -> u8 {
     let mut answer: u8 = 0;
-    let bytes = queries::read(size, tree, node, row, places, tag, Row(r), &mut answer);
+    let mut sharers: usize = 99;
+    let bytes = queries::read(
+        size,
+        tree,
+        node,
+        row,
+        places,
+        tag,
+        Row(r),
+        &mut answer,
+        &mut sharers,
+    );
     let got = answer;
     let expected = history_refusals::read_refusal(copies, size.rows, tag, r);
-    let same = same_bytes(size.width, copies, tag, r, got, bytes);
-    first(unless(got == expected, READING), unless(same, BYTES))
+    let slot = history_slots::slot_of(copies, tag);
+    let same = same_bytes(size.width, copies, slot, r, got, bytes);
+    let shared = same_sharers(copies, slot, r, got, sharers);
+    let read = first(unless(got == expected, READING), unless(same, BYTES));
+    first(read, unless(shared, SHARERS))
 }
 
 // The k-th row of all slots, where its version is alive.

@@ -1,5 +1,4 @@
 // What the full copy answers: 0, or the refusal.
-use history_numbers::get;
 use history_numbers::product;
 use history_numbers::sum;
 use history_plans::BORDER;
@@ -9,31 +8,12 @@ use history_plans::READ;
 use history_plans::SNAPSHOT;
 use history_plans::WRITE;
 use history_slots::SLOTS;
-use history_slots::mark_at;
 use history_slots::slot_of;
 use measures::Size;
 
-// Is this another living version with the same mark at the row?
-fn shares(copies: &[usize], slot: usize, r: usize, other: usize) -> bool {
-    if other == slot {
-        return false;
-    }
-    if !history_slots::alive(copies, other) {
-        return false;
-    }
-    get(copies, mark_at(other, r)) == get(copies, mark_at(slot, r))
-}
-
-// Is there one?
+// Has another living version the mark of a slot's row?
 fn shared(copies: &[usize], slot: usize, r: usize) -> bool {
-    let mut s: usize = 0;
-    while s < SLOTS {
-        if shares(copies, slot, r, s) {
-            return true;
-        }
-        s += 1;
-    }
-    false
+    history_slots::sharers(copies, slot, r) > 1
 }
 
 // 4, 21, 22, 23, or 0.

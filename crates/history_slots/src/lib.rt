@@ -29,10 +29,10 @@ pub fn alive(copies: &[usize], slot: usize) -> bool {
     get(copies, alive_at(slot)) == 1
 }
 
-// Is the version in a slot alive, and has it this tag?
-fn has_tag(copies: &[usize], slot: usize, tag: usize) -> bool {
+// Is the version in a slot alive, and does x stand at this index?
+fn has(copies: &[usize], slot: usize, i: usize, x: usize) -> bool {
     if alive(copies, slot) {
-        return get(copies, tag_at(slot)) == tag;
+        return get(copies, i) == x;
     }
     false
 }
@@ -42,7 +42,7 @@ pub fn slot_of(copies: &[usize], tag: u16) -> usize {
     let t = widen::pair(tag);
     let mut s: usize = 0;
     while s < SLOTS {
-        if has_tag(copies, s, t) {
+        if has(copies, s, tag_at(s), t) {
             return s;
         }
         s += 1;
@@ -90,6 +90,20 @@ pub fn snapshots(copies: &[usize]) -> usize {
     let mut s: usize = 1;
     while s < SLOTS {
         if alive(copies, s) {
+            n = sum(n, 1);
+        }
+        s += 1;
+    }
+    n
+}
+
+// How many living versions have the mark of a slot's row; the slot's own is one of them.
+pub fn sharers(copies: &[usize], slot: usize, r: usize) -> usize {
+    let m = get(copies, mark_at(slot, r));
+    let mut n: usize = 0;
+    let mut s: usize = 0;
+    while s < SLOTS {
+        if has(copies, s, mark_at(s, r), m) {
             n = sum(n, 1);
         }
         s += 1;

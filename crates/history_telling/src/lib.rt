@@ -16,6 +16,7 @@ fn show_what(what: u8) {
         history_comparing::BYTES => text(b"a row"),
         history_comparing::SHARING => text(b"who shares with whom"),
         history_comparing::DONE => text(b"the rows done"),
+        history_comparing::SHARERS => text(b"how many share a row"),
         _ => text(b"what a refusal leaves"),
     }
 }

@@ -6,17 +6,34 @@ ghost use Rattle.host_read.specs.Reads.{HostReads, Copied};
 use measures::Row;
 use measures::Size;
 
-// A row of the version with a tag is copied to `out`. Refusals: 20, 2, 3, 21.
-pub fn read(records: &[u8], places: &[u8], tag: u16, r: Row, out: &mut [u8]) -> u8
-    ensures { λ answer. ⌜ HostReads (now (records .entry)) (now (places .entry)) tag (r .0) (now (out .entry)) answer (now (out .exit)) ⌝ }
+// A row of the version with a tag is copied to `out`, and `sharers` says how many living versions share it; 0 if refused. Refusals: 20, 2, 3, 21.
+pub fn read(
+    records: &[u8],
+    places: &[u8],
+    tag: u16,
+    r: Row,
+    out: &mut [u8],
+    sharers: &mut usize,
+) -> u8
+    ensures { λ answer. ⌜ HostReads (now (records .entry)) (now (places .entry)) tag (r .0) (now (out .entry)) answer (now (out .exit), now (sharers .exit)) ⌝ }
 {
     if !layout::fits(records) {
+        *sharers = 0;
         return 20;
     }
     let n = layout::entries(records);
     let mut node = [0u8; 4096];
     let mut row = [0u16; 4096];
-    read_in(records, &mut node[..n], &mut row[..n], places, tag, r, out)
+    read_in(
+        records,
+        &mut node[..n],
+        &mut row[..n],
+        places,
+        tag,
+        r,
+        out,
+        sharers,
+    )
 }
 
 // The same, with buffers lent for the table.
@@ -28,23 +45,44 @@ fn read_in<'a>(
     tag: u16,
     r: Row,
     out: &mut [u8],
+    sharers: &mut usize,
 ) -> u8
     requires { ⌜ Ready (now records) (now node) (now row) ⌝ }
-    ensures { λ answer. ⌜ HostReads (now (records .entry)) (now (places .entry)) tag (r .0) (now (out .entry)) answer (now (out .exit)) ⌝ }
+    ensures { λ answer. ⌜ HostReads (now (records .entry)) (now (places .entry)) tag (r .0) (now (out .entry)) answer (now (out .exit), now (sharers .exit)) ⌝ }
 {
     let size = layout::size(records);
     let tree = loading::load(records, node, row);
     let mut answer: u8 = 0;
-    let bytes = queries::read(size, tree, node, row, places, tag, r, &mut answer);
+    let mut seen: usize = 0;
+    let bytes = queries::read(
+        size,
+        tree,
+        node,
+        row,
+        places,
+        tag,
+        r,
+        &mut answer,
+        &mut seen,
+    );
     let number = answer;
-    copy_row(size, number, bytes, out)
+    let many = seen;
+    copy_row(size, number, bytes, many, out, sharers)
 }
 
-// The row, where it was read and fits. A buffer of another length is refused after unsound records and before a row.
-fn copy_row(size: Size, number: u8, bytes: &[u8], out: &mut [u8]) -> u8
+// The row and its number, where it was read and fits. A buffer of another length is refused after unsound records and before a row.
+fn copy_row(
+    size: Size,
+    number: u8,
+    bytes: &[u8],
+    seen: usize,
+    out: &mut [u8],
+    sharers: &mut usize,
+) -> u8
     requires { ⌜ (number ≡ 0 → length (now bytes) ≡ size .width) ⌝ }
-    ensures { λ answer. ⌜ Copied (size .width) number (now (bytes .entry)) (now (out .entry)) answer (now (out .exit)) ⌝ }
+    ensures { λ answer. ⌜ Copied (size .width) number (now (bytes .entry)) seen (now (out .entry)) answer (now (out .exit)) (now (sharers .exit)) ⌝ }
 {
+    *sharers = 0;
     if number == 20 {
         return 20;
     }
@@ -55,5 +93,6 @@ fn copy_row(size: Size, number: u8, bytes: &[u8], out: &mut [u8]) -> u8
         return number;
     }
     placing::fill(out, bytes);
+    *sharers = seen;
     0
 }

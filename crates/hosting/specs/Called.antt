@@ -26,8 +26,8 @@ rowIn number out = cond (eqb number 0) out []
 -- rowstore_read, rowstore_write, rowstore_border, rowstore_delete and rowstore_count say
 pub data Host-ends (b places : List ℕ) : HostCall → Answer → List ℕ → List ℕ → Type 0 where
   snapshot-ends : {source new number : ℕ} {b′ : List ℕ} → HostSnapshots b source new number b′ → Host-ends b places (snapshot source new) (handed number [] []) b′ places
-  read-ends : {tag r number : ℕ} {out out′ : List ℕ} → HostReads b places tag r out number out′
-      → Host-ends b places (read tag r (length out)) (handed number (rowIn number out′) []) b places
+  read-ends : {tag r number sharers : ℕ} {out out′ : List ℕ} → HostReads b places tag r out number (out′, sharers)
+      → Host-ends b places (read tag r (length out)) (handed number (rowIn number out′) (sharers ∷ [])) b places
   write-ends : {tag r number : ℕ} {bs b′ places′ : List ℕ} → HostWrites b places tag r bs number (b′, places′) → Host-ends b places (write tag r bs) (handed number [] []) b′ places′
   border-ends : {tag number done : ℕ} {rows bytes b′ places′ : List ℕ} → HostBorders b places tag rows bytes number done (b′, places′)
       → Host-ends b places (border tag rows bytes) (handed number [] (done ∷ [])) b′ places′

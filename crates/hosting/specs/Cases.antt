@@ -59,7 +59,7 @@ AllOpen (c ∷ cs) = Opens c × AllOpen cs
 
 pub cases-open : AllOpen cases
 unfolding refusal inMeasure openTests
-cases-open = (refl, (refl, (refl, (refl, (refl, (refl, (refl, (refl, (refl, (refl, (refl, (refl, (refl, (refl, (refl, (refl, (refl, (refl, tt))))))))))))))))))
+cases-open = (refl, (refl, (refl, (refl, (refl, (refl, (refl, (refl, (refl, (refl, (refl, (refl, (refl, (refl, (refl, (refl, (refl, (refl, (refl, (refl, (refl, tt)))))))))))))))))))))
 
 -- so every opening from C with such buffers gets the line's number, and the calls on what it left hand out what the line says
 pub case-runs : (c : Case) → Meets c → Opens c → (b places : List ℕ) → length b ≡ c .records → length places ≡ c .places → (number : ℕ) (b₀ places₀ : List ℕ)

@@ -18,13 +18,13 @@ use Rattle.measures.specs.Measures.{Within}
 use Rattle.records.specs.Records.{Records, recordsOf, lives}
 use Rattle.model.specs.Call.{Call, one}
 use Rattle.model.specs.Call as on-records
-use Rattle.answers.specs.Answers.{Refusal, bad-size, bad-length, bad-row, unknown-tag, Answer, handed, row, refused, number}
+use Rattle.answers.specs.Answers.{Refusal, bad-size, bad-length, bad-row, unknown-tag, Answer, handed, row, refusedOf, number}
 use Rattle.model.specs.Model.{Model, opened, reply, next}
 use Rattle.answers.specs.Tests.{refusal, unless, inMeasure}
 use Rattle.answers.specs.Laws.{refusal-here, refusal-next, refusal-none, refusal-passed, unless-made, measure-in, number-some}
 use Rattle.soundness.specs.Judged.{Leaves, judged-sound}
 use Rattle.edits.specs.Edits.{Whole, withTree}
-use Rattle.reads.specs.Reads.{readAnswer, rowOfTag}
+use Rattle.reads.specs.Reads.{readAnswer, rowOfTag, sharersOfTag}
 use Rattle.reads.specs.Reads as queries
 use Rattle.takes.specs.Taking.{snapshotVerdict, snapshotTree}
 use Rattle.owning.specs.Owning.{Held, held}
@@ -97,15 +97,17 @@ read-tests : (z : Records) (places out : List ℕ) (tag r : ℕ) → length out 
 unfolding readTests queries.readTests
 read-tests z places out tag r e = rw (e, eq-eqb (z .size .width) (z .size .width) refl) (passes (not (eqb (length places) (z .size .places * z .size .width))) (leb (z .size .rows) r) (not (lives z tag)))
 
-read-hands : (v : Option Refusal) (bytes out out′ : List ℕ) {answer : ℕ} → Leaves v out bytes answer out′ → handed answer (rowIn answer out′) [] ≡ unless v refused (row bytes)
+read-hands : (v : Option Refusal) (bytes out out′ : List ℕ) (seen sharers : ℕ) {answer : ℕ} → Leaves {A = List ℕ × ℕ} v (out, 0) (bytes, seen) answer (out′, sharers)
+    → handed answer (rowIn answer out′) (sharers ∷ []) ≡ unless v (refusedOf 1) (row bytes seen)
 unfolding rowIn
-read-hands none bytes out out′ l = rw (l .numbered, l .left)
-read-hands (some x) bytes out out′ l = rw (l .numbered, ne-eqb (number x) 0 (number-some x))
+read-hands none bytes out out′ seen sharers l = rw (l .numbered) (λ i. row (l .left i .0) (l .left i .1))
+read-hands (some x) bytes out out′ seen sharers l = rw (l .numbered, ne-eqb (number x) 0 (number-some x)) (λ i. handed (number x) [] (l .left i .1 ∷ []))
 
-answered : (z : Records) (places : List ℕ) (tag r number : ℕ) (bytes : List ℕ) → handed number bytes [] ≡ unless (refusal (queries.readTests z (length places) tag r)) refused (row (rowOfTag z places tag r))
-    → handed number bytes [] ≡ readAnswer z places tag r
+answered : (z : Records) (places : List ℕ) (tag r number : ℕ) (bytes : List ℕ) (sharers : ℕ)
+    → handed number bytes (sharers ∷ []) ≡ unless (refusal (queries.readTests z (length places) tag r)) (refusedOf 1) (row (rowOfTag z places tag r) (sharersOfTag z tag r))
+    → handed number bytes (sharers ∷ []) ≡ readAnswer z places tag r
 unfolding readAnswer
-answered z places tag r number bytes h = h
+answered z places tag r number bytes sharers h = h
 
 -- a read into any other number of bytes is refused with 2, and fills nothing
 wrong-room : (z : Records) (places out : List ℕ) (tag r : ℕ) → length places ≡ z .size .places * z .size .width → length out ≢ z .size .width
@@ -113,9 +115,13 @@ wrong-room : (z : Records) (places out : List ℕ) (tag r : ℕ) → length plac
 unfolding readTests
 wrong-room z places out tag r p w = refusal-next bad-length _ (not-no (eq-eqb _ _ p)) ∙ refusal-here bad-length _ (not-yes (ne-eqb _ _ w))
 
-unfilled : (v : Option Refusal) (bytes out out′ : List ℕ) {answer : ℕ} → v ≡ some bad-length → Leaves v out bytes answer out′ → (answer ≡ 2) × (rowIn answer out′ ≡ [])
+unfilled : (v : Option Refusal) (bytes out out′ : List ℕ) (seen sharers : ℕ) {answer : ℕ} → v ≡ some bad-length → Leaves {A = List ℕ × ℕ} v (out, 0) (bytes, seen) answer (out′, sharers)
+    → handed answer (rowIn answer out′) (sharers ∷ []) ≡ refusedOf 1 bad-length
 unfolding rowIn
-unfilled v bytes out out′ {answer} e l = let n : answer ≡ 2 = l .numbered ∙ rw e in (n, rw n)
+unfilled v bytes out out′ seen sharers {answer} e l =
+    let n : answer ≡ 2 = l .numbered ∙ rw e in
+    let k : _≡_ {A = List ℕ × ℕ} (out′, sharers) (out, 0) = l .left ∙ rw e in
+    rw n (λ i. handed 2 [] (k i .1 ∷ []))
 
 -- One call from C, and what the model says of it
 
@@ -126,7 +132,7 @@ module _ (z : Size) (m : Model) where
       let v : roomVerdict z (read tag r n) ≡ none = refusal-next bad-length [] (not-no (eq-eqb n (z .width) e)) ∙ refusal-none in
       (rw v, rw v)
 
-  room-wrong : (tag r n : ℕ) → n ≢ z .width → (hostAnswer z m (read tag r n) ≡ refused bad-length) × (hostAfter z m (read tag r n) ≡ m)
+  room-wrong : (tag r n : ℕ) → n ≢ z .width → (hostAnswer z m (read tag r n) ≡ refusedOf 1 bad-length) × (hostAfter z m (read tag r n) ≡ m)
   unfolding hostAnswer hostAfter
   room-wrong tag r n e =
       let v : roomVerdict z (read tag r n) ≡ some bad-length = refusal-here bad-length [] (not-yes (ne-eqb n (z .width) e)) in
@@ -158,16 +164,16 @@ module _ (b places : List ℕ) (m : Model) (f : Fits b) (run : Runs (loaded b) p
       let next = snapshot-call z places m run source new number _ got .1 in
       let (same, fits) = reload b f v (withTree z t) _ (l .left) (unless-made (withTree z) v (z .tree) t) (runs-storable next) in
       told refl refl fits (rw same (trace.snapshot-ends (judged-sound (run .store .sound) got)))
-  host-call (read-ends {tag = tag} {r = r} {number = number} {out = out} {out′ = out′} e) = by-cases (ℕ-discrete (length out) (z .size .width))
+  host-call (read-ends {tag = tag} {r = r} {number = number} {sharers = sharers} {out = out} {out′ = out′} e) = by-cases (ℕ-discrete (length out) (z .size .width))
       (λ w.
       let (p, q) = room-fits (z .size) m tag r (length out) w in
       let l = rw (read-tests z places out tag r w) at (e .sound f (run .store .sound)) in
-      told p q f (trace.read-ends (judged-sound (run .store .sound) (answered z places tag r number (rowIn number out′)
-      (read-hands (refusal (queries.readTests z (length places) tag r)) (rowOfTag z places tag r) out out′ l)))))
+      told p q f (trace.read-ends (judged-sound (run .store .sound) (answered z places tag r number (rowIn number out′) sharers
+      (read-hands (refusal (queries.readTests z (length places) tag r)) (rowOfTag z places tag r) out out′ (sharersOfTag z tag r) sharers l)))))
       (λ w.
       let (p, q) = room-wrong (z .size) m tag r (length out) w in
-      let (n, empty) = unfilled _ _ out out′ (wrong-room z places out tag r (run .store .size) w) (e .sound f (run .store .sound)) in
-      record { hands = rw (p, n, rw n at empty); sized = refl; fits = f; runs = rw q run })
+      let h = unfilled _ _ out out′ _ sharers (wrong-room z places out tag r (run .store .size) w) (e .sound f (run .store .sound)) in
+      record { hands = h ∙ sym p; sized = refl; fits = f; runs = rw q run })
   host-call (write-ends {tag = tag} {r = r} {number = number} {bs = bs} e) =
       let l = e .sound f (run .store .sound) in
       let v = writeVerdict z places tag r bs in

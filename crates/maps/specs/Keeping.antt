@@ -7,9 +7,9 @@ use Prim.Native.Nat.{ℕ, _<_}
 use native.Mathlib.Decide.{ℕ-discrete}
 use lib.Dec.{eqb}
 use borrow.Author.Tests.{ne-eqb}
-use Rattle.copies.specs.Copies.{Cell, Copies, alive, Live, shared, placesUsed, adopt, without, fresh, copied}
+use Rattle.copies.specs.Copies.{Cell, Copies, alive, Live, shared, sharers, placesUsed, adopt, without, fresh, copied}
 use Rattle.copies.specs.Living.{alive-origin, alive-cons, alive-source, alive-gone, alive-stays, alive-before}
-use Rattle.copies.specs.Counting.{used-tags, shared-tags, used-pattern, shared-pattern}
+use Rattle.copies.specs.Counting.{used-tags, shared-tags, sharers-tags, used-pattern, shared-pattern, sharers-pattern}
 use Rattle.maps.specs.Map.{Map, firstMap, joined, left, Alike, Mirrors}
 
 module _ {A : Type 0} (n : ℕ) where
@@ -42,12 +42,15 @@ module _ {A : Type 0} (n : ℕ) {m : Map A} {tags : List ℕ} {s : Copies A} (a 
   pub in-map : (c : Cell) → Live n tags c → Live n (m .tags) c
   in-map c l = rw (a .living (c .0)) l
 
-  -- as many places as marks, and a row is shared in both or in neither
+  -- as many places as marks; a row is shared in both or in neither, and by as many
   pub used-same : placesUsed n (m .tags) (m .place) ≡ placesUsed n tags (s .mark)
   used-same = used-tags (m .tags) tags (a .living) n (m .place) ∙ used-pattern n tags (m .place) (s .mark) (a .names)
 
   pub shared-same : (t r : ℕ) → Live n tags (t, r) → shared (m .tags) (m .place) t r ≡ shared tags (s .mark) t r
   shared-same t r l = shared-tags (m .tags) tags (a .living) (m .place) t r ∙ shared-pattern n tags (m .place) (s .mark) (a .names) t r l
+
+  pub sharers-same : (t r : ℕ) → Live n tags (t, r) → sharers (m .tags) (m .place) t r ≡ sharers tags (s .mark) t r
+  sharers-same t r l = sharers-tags (m .tags) tags (a .living) (m .place) t r ∙ sharers-pattern n tags (m .place) (s .mark) (a .names) t r l
 
   pub alike-keeps : {m′ : Map A} → Alike n m′ m → Mirrors n m′ tags s
   alike-keeps k = record {

@@ -8,7 +8,7 @@ use lib.Dec.{eqb, leb}
 use lib.ListN.{length, replicate}
 use Rattle.measures.specs.declared.Size.{Size}
 use Rattle.measures.specs.Measures.{rowsWith}
-use Rattle.copies.specs.Copies.{Cell, Copies, alive, snapshotsAlive, shared, placesUsed, without, fresh, copied, saved}
+use Rattle.copies.specs.Copies.{Cell, Copies, alive, snapshotsAlive, shared, sharers, placesUsed, without, fresh, copied, saved}
 use Rattle.basics.specs.Equal.{equal}
 use Rattle.model.specs.Call.{Single, snapshot, read, write, delete, count, Call, one, border}
 use Rattle.answers.specs.Answers.{Refusal, bad-length, bad-row, zero-tag, origin-tag, unknown-tag, tag-alive, snapshots-full, places-full, too-many-rows, Answer, done, row, counts, refusedOf}
@@ -37,7 +37,7 @@ module _ (z : Size) (tags : List ℕ) (mark : Cell → ℕ) (bytes : Cell → Li
   -- the answer of a call that is accepted
   unfoldable pub accepted : Single → Answer
   accepted (snapshot s t) = done
-  accepted (read t r) = row (bytes (t, r))
+  accepted (read t r) = row (bytes (t, r)) (sharers tags mark t r)
   accepted (write t r bs) = done
   accepted (delete t) = done
   accepted count = counts (placesUsed (z .rows) tags mark) (snapshotsAlive tags)
@@ -45,7 +45,7 @@ module _ (z : Size) (tags : List ℕ) (mark : Cell → ℕ) (bytes : Cell → Li
 -- how many numbers a call gives beside its own
 abbrev pub gives : Call → ℕ
 gives (one (snapshot s t)) = 0
-gives (one (read t r)) = 0
+gives (one (read t r)) = 1
 gives (one (write t r bs)) = 0
 gives (one (delete t)) = 0
 gives (one count) = 2

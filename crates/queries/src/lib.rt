@@ -6,7 +6,8 @@ use measures::Size;
 use tree::Found;
 use trees::Tree;
 
-// Refusals: 20, 2, 3, 21. The row is handed out where it lies in the places; a refusal hands out the empty part at their front.
+// Refusals: 20, 2, 3, 21. The row is handed out where it lies in the places, with how many living versions share it; a refusal hands out the
+// empty part at their front, and 0.
 pub fn read<'a, 'b>(
     size: Size,
     tree: Tree,
@@ -16,10 +17,12 @@ pub fn read<'a, 'b>(
     tag: u16,
     r: Row,
     answer: &mut u8,
+    sharers: &mut usize,
 ) -> &'a [u8]
-    ensures { λ s. ⌜ ReadEnds (recordsOf size tree (now (node .entry)) (now (row .entry))) (now (places .entry)) tag (r .0) (now (answer .exit)) (now s)
+    ensures { λ s. ⌜ ReadEnds (recordsOf size tree (now (node .entry)) (now (row .entry))) (now (places .entry)) tag (r .0) (now (answer .exit)) (now s) (now (sharers .exit))
         × ReadPart (recordsOf size tree (now (node .entry)) (now (row .entry))) (now (places .entry)) tag (r .0) (places .entry .ptr) (s .ptr) ⌝ }
 {
+    *sharers = 0;
     if !soundness::sound(size, tree, node, row) {
         *answer = 20;
         return placing::nothing(places);
@@ -39,7 +42,8 @@ pub fn read<'a, 'b>(
         return placing::nothing(places);
     };
     *answer = 0;
-    let place = reading::lookup(&tree.state, &tree.tag, &tree.parent, rows, node, row, n, r);
+    let seen = sharing::lookup(&tree.state, &tree.tag, &tree.parent, rows, node, row, n, r);
+    *sharers = seen.sharers;
     let width = size.width;
-    placing::part(places, width, place)
+    placing::part(places, width, seen.place)
 }

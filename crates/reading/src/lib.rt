@@ -47,7 +47,7 @@ pub fn held(rows: usize, i: usize) -> Place
 }
 
 // The place that a node reads a row from: going up, the first own one, else the origin's.
-pub fn lookup<'a>(
+pub fn climb<'a>(
     state: &'a [u8; 128],
     tag: &'a [u16; 128],
     parent: &'a [u8; 128],

@@ -1,4 +1,4 @@
--- The ways out of read, one for each test, and that a place read lies inside the places. Assumes nothing.
+-- The ways out of read, one for each test on sound records, and that a place read lies inside the places. Assumes nothing.
 use mathlib.Core.Path.{_≡_, sym, _∙_, ap}
 use mathlib.Core.Bool.{not}
 use mathlib.Core.List.{List, [], _∷_}
@@ -19,13 +19,14 @@ use Rattle.records.specs.Sound.{Sound}
 use Rattle.tree.specs.Nodes.{version-alive}
 use Rattle.reading.specs.Lookup.{Looking}
 use Rattle.reading.specs.Used.{place-low}
-use Rattle.answers.specs.Answers.{Refusal, bad-length, bad-row, unknown-tag, number, handed, row}
+use Rattle.sharing.specs.Sharing.{sharersAt}
+use Rattle.answers.specs.Answers.{Refusal, bad-length, bad-row, unknown-tag, number, row}
 use Rattle.answers.specs.Tests.{Tests, refusal}
 use Rattle.answers.specs.Laws.{refusal-here, refusal-next, refusal-none}
-use Rattle.soundness.specs.Judged.{judged-sound, judged-unsound}
+use Rattle.soundness.specs.Judged.{judged-sound}
 use Rattle.soundness.specs.Parts.{few-places}
 use Rattle.placing.specs.Placing.{Inside, Spot, Lies}
-use Rattle.reads.specs.Reads.{readTests, rowOfTag, readAnswer, partFrom, ReadEnds, ReadPart}
+use Rattle.reads.specs.Reads.{readTests, rowOfTag, sharersOfTag, readAnswer, partFrom, ReadEnds, ReadPart}
 
 -- the empty part at the front of what is lent
 abbrev Nothing : Spot → List ℕ → Spot → Type 0
@@ -33,11 +34,8 @@ Nothing whole bytes part = (bytes ≡ []) × Lies whole 0 part
 
 module _ (z : Records) (places : List ℕ) (tag r : ℕ) where
   -- a read's whole promise: what it answers, and which part of the places it hands out
-  abbrev Promise : ℕ → Spot → List ℕ → Spot → Type 0
-  Promise number whole bytes part = ReadEnds z places tag r number bytes × ReadPart z places tag r whole part
-
-  pub read-unsound : (Sound z → ⊥) → {whole part : Spot} {bytes : List ℕ} → Nothing whole bytes part → Promise 20 whole bytes part
-  read-unsound u (h, l) = (judged-unsound u (ap (λ (b : List ℕ). handed 20 b []) h), judged-unsound u l)
+  abbrev Promise : ℕ → ℕ → Spot → List ℕ → Spot → Type 0
+  Promise number sharers whole bytes part = ReadEnds z places tag r number bytes sharers × ReadPart z places tag r whole part
 
   tagTest : Tests
   tagTest = (not (lives z tag), unknown-tag) ∷ []
@@ -46,11 +44,11 @@ module _ (z : Records) (places : List ℕ) (tag r : ℕ) where
   rowTest = (leb (z .size .rows) r, bad-row) ∷ tagTest
 
   module _ (s : Sound z) where
-    read-refused : (x : Refusal) → refusal (readTests z (length places) tag r) ≡ some x → {whole part : Spot} {bytes : List ℕ} → Nothing whole bytes part → Promise (number x) whole bytes part
+    read-refused : (x : Refusal) → refusal (readTests z (length places) tag r) ≡ some x → {whole part : Spot} {bytes : List ℕ} → Nothing whole bytes part → Promise (number x) 0 whole bytes part
     unfolding readAnswer partFrom
     read-refused x e (h, l) = (judged-sound s (rw (e, h)), judged-sound s (rw e l))
 
-    pub read-length : (length places ≡ z .size .places * z .size .width → ⊥) → {whole part : Spot} {bytes : List ℕ} → Nothing whole bytes part → Promise 2 whole bytes part
+    pub read-length : (length places ≡ z .size .places * z .size .width → ⊥) → {whole part : Spot} {bytes : List ℕ} → Nothing whole bytes part → Promise 2 0 whole bytes part
     unfolding readTests
     read-length h = read-refused bad-length (refusal-here bad-length _ (not-yes (ne-eqb _ _ h)))
 
@@ -59,7 +57,7 @@ module _ (z : Records) (places : List ℕ) (tag r : ℕ) where
       unfolding readTests rowTest tagTest
       length-passed = refusal-next bad-length _ (not-no (eq-eqb _ _ p))
 
-      pub read-row : (r < z .size .rows → ⊥) → {whole part : Spot} {bytes : List ℕ} → Nothing whole bytes part → Promise 3 whole bytes part
+      pub read-row : (r < z .size .rows → ⊥) → {whole part : Spot} {bytes : List ℕ} → Nothing whole bytes part → Promise 3 0 whole bytes part
       unfolding rowTest
       read-row h = read-refused bad-row (length-passed ∙ refusal-here bad-row tagTest (le-leb (z .size .rows) r (omega arith)))
 
@@ -68,19 +66,19 @@ module _ (z : Records) (places : List ℕ) (tag r : ℕ) where
         unfolding rowTest
         row-passed = length-passed ∙ refusal-next bad-row tagTest (lt-leb _ _ l)
 
-        pub read-tag : version (z .tree) tag ≡ none → {whole part : Spot} {bytes : List ℕ} → Nothing whole bytes part → Promise 21 whole bytes part
+        pub read-tag : version (z .tree) tag ≡ none → {whole part : Spot} {bytes : List ℕ} → Nothing whole bytes part → Promise 21 0 whole bytes part
         unfolding tagTest lives
         read-tag v = read-refused unknown-tag (row-passed ∙ refusal-here unknown-tag [] (rw v))
 
-        -- the row of the version at node n, in the place from which that reads it
-        pub read-done : (n : ℕ) → version (z .tree) tag ≡ some n → {whole part : Spot} {bytes : List ℕ} → bytes ≡ bytesAt (z .size .width) places (place (z .tree) (table z) n r)
-            → Lies whole (beginsAt (z .size .width) (place (z .tree) (table z) n r)) part → Promise 0 whole bytes part
-        unfolding tagTest lives readAnswer rowOfTag tagPlace partFrom
-        read-done n v h m =
+        -- the row of the version at node n, in the place from which that reads it, and how many read it from there
+        pub read-done : (n : ℕ) → version (z .tree) tag ≡ some n → {whole part : Spot} {bytes : List ℕ} {sharers : ℕ} → bytes ≡ bytesAt (z .size .width) places (place (z .tree) (table z) n r)
+            → Lies whole (beginsAt (z .size .width) (place (z .tree) (table z) n r)) part → sharers ≡ sharersAt (z .tree) (table z) n r → Promise 0 sharers whole bytes part
+        unfolding tagTest lives readAnswer rowOfTag sharersOfTag tagPlace partFrom
+        read-done n v h m k =
             let e : refusal (readTests z (length places) tag r) ≡ none = row-passed ∙ refusal-next unknown-tag [] (rw v) ∙ refusal-none in
             let f : tagPlace z tag r ≡ place (z .tree) (table z) n r = rw v in
             let g : partFrom z (length places) tag r ≡ beginsAt (z .size .width) (place (z .tree) (table z) n r) = rw e (ap (beginsAt (z .size .width)) f) in
-            (judged-sound s (rw (e, v) (ap row h)), judged-sound s (rw g m))
+            (judged-sound s (rw (e, v) (λ i. row (h i) (k i))), judged-sound s (rw g m))
 
 -- the node of a living version is in use, and the lookup may start from it
 pub version-used : (t : Tree) (tag n : ℕ) → version t tag ≡ some n → InUse t n

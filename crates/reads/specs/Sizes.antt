@@ -10,23 +10,27 @@ use native.Mathlib.Omega.{arith}
 use lib.Dec.{eqb, leb}
 use lib.ListN.{length}
 use borrow.Author.Tests.{eqb-true, leb-false}
+use Rattle.basics.specs.Decide.{at}
 use Rattle.measures.specs.Measures.{bytesAt}
 use Rattle.records.specs.Records.{Records, lives, tagPlace, isFound, placeBy}
 use Rattle.trees.specs.Trees.{version}
 use Rattle.records.specs.Sound.{Sound}
-use Rattle.answers.specs.Answers.{Refusal, bad-length, bad-row, unknown-tag, unsound, Answer, refused, row}
+use Rattle.answers.specs.Answers.{Refusal, bad-length, bad-row, unknown-tag, unsound, Answer, refusedOf, row}
 use Rattle.answers.specs.Tests.{refusal, unless}
 use Rattle.answers.specs.Laws.{refusal-passed, number-some}
 use Rattle.placing.specs.Laws.{bytes-size}
-use Rattle.reads.specs.Reads.{ReadEnds, readTests, readAnswer, rowOfTag}
+use Rattle.reads.specs.Reads.{ReadEnds, readTests, readAnswer, rowOfTag, sharersOfTag}
 use Rattle.reads.specs.Laws.{version-used, read-inside}
 
--- an answer's number and its bytes
+-- an answer's number, its bytes, and the number that it gives beside
 pub same-number : {a b : Answer} → a ≡ b → a .number ≡ b .number
 same-number e = ap (λ (x : Answer). x .number) e
 
 pub same-bytes : {a b : Answer} → a ≡ b → a .bytes ≡ b .bytes
 same-bytes e = ap (λ (x : Answer). x .bytes) e
+
+pub same-sharers : {a b : Answer} → a ≡ b → at (a .numbers) 0 ≡ at (b .numbers) 0
+same-sharers e = ap (λ (x : Answer). at (x .numbers) 0) e
 
 module _ (z : Records) (places : List ℕ) (tag r : ℕ) where
   verdict : Option Refusal
@@ -51,22 +55,22 @@ module _ (z : Records) (places : List ℕ) (tag r : ℕ) where
       go (some n) w e l t = bytes-size (z .size .width) places _ (read-inside z s places e n r (version-used (z .tree) tag n w) l .within)
 
   -- a number 0 says that it was accepted
-  accepted : (v : Option Refusal) (bs : List ℕ) → unless v refused (row bs) .number ≡ 0 → v ≡ none
-  accepted none bs e = refl
-  accepted (some x) bs e = absurd (number-some x e)
+  accepted : (v : Option Refusal) (bs : List ℕ) (n : ℕ) → unless v (refusedOf 1) (row bs n) .number ≡ 0 → v ≡ none
+  accepted none bs n e = refl
+  accepted (some x) bs n e = absurd (number-some x e)
 
-  pub read-size : {n : ℕ} {bytes : List ℕ} → ReadEnds z places tag r n bytes → n ≡ 0 → length bytes ≡ z .size .width
+  pub read-size : {n sharers : ℕ} {bytes : List ℕ} → ReadEnds z places tag r n bytes sharers → n ≡ 0 → length bytes ≡ z .size .width
   unfolding readAnswer verdict
-  read-size {n} {bytes} e zero-number = by-cases (ℕ-discrete (length bytes) (z .size .width))
+  read-size {bytes = bytes} e zero-number = by-cases (ℕ-discrete (length bytes) (z .size .width))
       (λ g. g)
       (λ g.
       let bad : Sound z → ⊥ = λ s.
       let h = e .sound s in
-      let v = accepted verdict (rowOfTag z places tag r) (sym (same-number h) ∙ zero-number) in
+      let v = accepted verdict (rowOfTag z places tag r) (sharersOfTag z tag r) (sym (same-number h) ∙ zero-number) in
       g (rw (same-bytes h, v) (row-size s v)) in
       absurd (number-some unsound (sym (same-number (e .unsound bad)) ∙ zero-number)))
 
-  pub read-some : {n : ℕ} {bytes : List ℕ} → ReadEnds z places tag r n bytes → n ≡ 0 → bytes ≢ []
+  pub read-some : {n sharers : ℕ} {bytes : List ℕ} → ReadEnds z places tag r n bytes sharers → n ≡ 0 → bytes ≢ []
   read-some e zero-number none-read =
       let bad : Sound z → ⊥ = λ s. omega (arith, s .measured .within .width .0, read-size e zero-number, ap length none-read) in
       number-some unsound (sym (same-number (e .unsound bad)) ∙ zero-number)

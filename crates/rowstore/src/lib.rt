@@ -62,7 +62,7 @@ pub extern "C" fn rowstore_border(
     host_border::border(records, places, tag, rows, bytes, done)
 }
 
-// A row of the version with a tag is copied to `out`. Refusals: 20, 2, 3, 21.
+// A row of the version with a tag is copied to `out`, and `sharers` says how many living versions share it; 0 if refused. Refusals: 20, 2, 3, 21.
 #[no_mangle]
 pub extern "C" fn rowstore_read(
     records: &[u8],
@@ -70,10 +70,11 @@ pub extern "C" fn rowstore_read(
     tag: u16,
     row: usize,
     out: &mut [u8],
+    sharers: &mut usize,
 ) -> u8
-    ensures { λ answer. ⌜ HostReads (now (records .entry)) (now (places .entry)) tag row (now (out .entry)) answer (now (out .exit)) ⌝ }
+    ensures { λ answer. ⌜ HostReads (now (records .entry)) (now (places .entry)) tag row (now (out .entry)) answer (now (out .exit), now (sharers .exit)) ⌝ }
 {
-    host_read::read(records, places, tag, Row(row), out)
+    host_read::read(records, places, tag, Row(row), out, sharers)
 }
 
 // A store of `rows` rows of `width` bytes in `count` places. Refusals: 1, 2.

@@ -1,8 +1,8 @@
--- Laws of the free entry: what is found is free, and none is found exactly where all places are in use. Then another version
--- that reads the same place, searched node by node. Assumes nothing.
+-- Laws of the free entry: what is found is free, and none is found exactly where all places are in use. Then those who read a
+-- row from one place, counted node by node, and when that makes it shared. Assumes nothing.
 use mathlib.Core.Path.{_≡_, refl, sym, _∙_, ap}
 use mathlib.Core.Logic.{_≢_, _↔_, by-cases}
-use mathlib.Core.Bool.{Bool, true, not, _&&_, false≢true}
+use mathlib.Core.Bool.{Bool, true, false, not, false≢true}
 use mathlib.Core.List.{List}
 use mathlib.Core.Option.{Option, none, some}
 use Prim.Native.Nat.{ℕ, zero, suc, _+_, _≤_, _<_}
@@ -13,13 +13,13 @@ use lib.ListN.{length}
 use borrow.Author.Tests.{eq-eqb, ne-eqb, eqb-true, eqb-false}
 use Rattle.basics.specs.Decide.{Decides, at, and-yes, both, not-yes, not-of}
 use Rattle.basics.specs.Count.{sum, one, count, first}
-use Rattle.basics.specs.CountLaws.{sum-ones, one-yes, one-most, one-true, count-most, first-start, first-yes, first-no, first-more, first-some, first-none, first-nothing}
+use Rattle.basics.specs.CountLaws.{sum-ones, one-yes, one-most, one-true, count-none, count-yes, count-no, count-most, count-two, count-pair, first-start, first-yes, first-no, first-more, first-some, first-none, first-nothing}
 use Rattle.trees.specs.declared.Tree.{Tree}
-use Rattle.trees.specs.Trees.{Table, InUse, Alive, taken, used}
+use Rattle.trees.specs.Trees.{Table, Alive, taken, used}
 use Rattle.trees.specs.Reading.{place}
 use Rattle.records.specs.Records.{isFound}
 use Rattle.reading.specs.Lookup.{Looking}
-use Rattle.sharing.specs.Sharing.{SharedAt, isSharer, sharedAt, freeEntry, Sharing}
+use Rattle.sharing.specs.Sharing.{readsFrom, sharersAt, SharedAt, isSharer, sharedAt, freeEntry}
 
 -- Free entries
 
@@ -83,54 +83,72 @@ full-used e = (
   λ h. none-free (e .node) (λ i l. not-of _ 0 (all-counted (taken e) (length (e .node)) (omega arith) i l)),
 )
 
+-- How many read a row from one place: node by node
+
+module _ (t : Tree) (e : Table) (r p : ℕ) where
+  reads-from : (n : ℕ) → Alive t n → place t e n r ≡ p → readsFrom t e r p n ≡ true
+  unfolding readsFrom
+  reads-from n a h = and-yes (eq-eqb _ 1 (a .1)) (eq-eqb _ p h)
+
+  from-reads : (n : ℕ) → n < 128 → readsFrom t e r p n ≡ true → Alive t n × (place t e n r ≡ p)
+  unfolding readsFrom
+  from-reads n l h = let (a, b) = both (eqb (at (t .state) n) 1) (eqb (place t e n r) p) h in ((l, eqb-true _ 1 a), eqb-true _ p b)
+
+  -- those below n are counted
+  pub record Counted (n c : ℕ) : Type 0 where
+    pub most : n ≤ 128
+    pub sums : c ≡ count (readsFrom t e r p) n
+
+  pub counted-start : Counted 0 0
+  counted-start = record { most = omega arith; sums = sym (count-none (readsFrom t e r p)) }
+
+  pub counted-most : {n c : ℕ} → Counted n c → c ≤ 128
+  counted-most {n} h = omega (arith, h .most, h .sums, count-most (readsFrom t e r p) n)
+
+  pub counted-yes : {n c : ℕ} → n < 128 → Counted n c → at (t .state) n ≡ 1 → place t e n r ≡ p → Counted (n + 1) (c + 1)
+  counted-yes {n} l h a x = record { most = omega arith; sums = omega (arith, h .sums, count-yes (readsFrom t e r p) n (reads-from n (l, a) x)) }
+
+  pub counted-no : {n c : ℕ} → n < 128 → Counted n c → (at (t .state) n ≡ 1 → place t e n r ≡ p → ⊥) → Counted (n + 1) c
+  counted-no {n} l h f = record { most = omega arith; sums = h .sums ∙ sym (count-no (readsFrom t e r p) n (no (readsFrom t e r p n) refl)) }
+    where
+      no : (b : Bool) → readsFrom t e r p n ≡ b → readsFrom t e r p n ≡ false
+      no true x = let (a, q) = from-reads n l x in absurd (f (a .1) q)
+      no false x = x
+
+  pub counted-all : {n c : ℕ} → 128 ≤ n → Counted n c → c ≡ count (readsFrom t e r p) 128
+  counted-all {n} l h = let e : n ≡ 128 = omega (arith, h .most) in rw e at (h .sums)
+
+-- the lookup may go up from any living node
+pub looking-alive : (t : Tree) (e : Table) (v n : ℕ) → Looking t e v → Alive t n → Looking t e n
+looking-alive t e v n s a = record { climbs = record { parents = s .climbs .parents; used = (a .0, omega (arith, a .1)) }; halves = s .halves; few = s .few }
+
 -- Shared rows
 
--- no living version below n, other than that at node v, reads row r from the same place
-pub record Alone (t : Tree) (e : Table) (v r n : ℕ) : Type 0 where
-  pub most : n ≤ 128
-  pub differs : (k : ℕ) → k < n → Alive t k → k ≢ v → place t e k r ≢ place t e v r
-
--- the lookup may be asked at any node in use, and a living one is in use
-pub looking : (t : Tree) (e : Table) (v n : ℕ) → Sharing t e v → InUse t n → Looking t e n
-looking t e v n s u = record { climbs = record { parents = s .parents; used = u }; halves = s .halves; few = s .few }
-
-pub looking-alive : (t : Tree) (e : Table) (v n : ℕ) → Sharing t e v → Alive t n → Looking t e n
-looking-alive t e v n s a = looking t e v n s (a .0, omega (arith, a .1))
-
 module _ (t : Tree) (e : Table) (v r : ℕ) where
-  pub alone-start : Alone t e v r 0
-  alone-start = record { most = omega arith; differs = λ k l. absurd (omega arith) }
+  -- THE NUMBER AND SHARING: a version's row is shared exactly if more than one living version reads it from its place
+  pub shared-number : Alive t v → (1 < sharersAt t e v r) ↔ SharedAt t e v r
+  unfolding sharersAt
+  shared-number a = (
+    λ l. let (m, n, k, h, d, x, y) = count-pair (readsFrom t e r (place t e v r)) 128 l in other m n d (from-reads t e r (place t e v r) m k x) (from-reads t e r (place t e v r) n h y),
+    λ (n, b, d, p). count-two (readsFrom t e r (place t e v r)) 128 n v (b .0) (a .0) d (reads-from t e r (place t e v r) n b p) (reads-from t e r (place t e v r) v a refl),
+  )
+    where
+      -- one of two is not v
+      other : (m n : ℕ) → m ≢ n → Alive t m × (place t e m r ≡ place t e v r) → Alive t n × (place t e n r ≡ place t e v r) → SharedAt t e v r
+      other m n d (b, p) (c, q) = by-cases (ℕ-discrete m v) (λ x. (n, c, (λ y. d (x ∙ sym y)), q)) (λ x. (m, b, x, p))
 
-  pub alone-next : (n : ℕ) → n < 128 → Alone t e v r n → (Alive t n → n ≢ v → place t e n r ≢ place t e v r) → Alone t e v r (n + 1)
-  alone-next n l a h = record {
-    most = omega arith;
-    differs = λ k m. by-cases (ℕ-discrete k n) (λ d. rw d h) (λ d. a .differs k (omega arith));
-  }
+  -- The test answers whether the row is shared
 
-  pub alone-over : (n : ℕ) → 128 ≤ n → Alone t e v r n → SharedAt t e v r → ⊥
-  alone-over n l a (k, x, d, p) = a .differs k (omega (arith, x .0)) x d p
-
-  -- p and q are the places that the lookups gave for the versions at v and at n
-  module _ (n p q : ℕ) (x : p ≡ place t e v r) (y : q ≡ place t e n r) where
-    pub shared-by : Alive t n → n ≢ v → p ≡ q → SharedAt t e v r
-    shared-by a d h = (n, a, d, sym y ∙ sym h ∙ x)
-
-    pub not-shared-by : (p ≡ q → ⊥) → place t e n r ≢ place t e v r
-    not-shared-by h z = h (x ∙ sym z ∙ sym y)
-
--- The test answers whether the row is shared
-
-module _ (t : Tree) (e : Table) (v r : ℕ) where
   sharer-yes : (n : ℕ) → Alive t n → n ≢ v → place t e n r ≡ place t e v r → isSharer t e v r n ≡ true
   unfolding isSharer
-  sharer-yes n a h p = and-yes (eq-eqb _ 1 (a .1)) (and-yes (not-yes (ne-eqb n v h)) (eq-eqb _ _ p))
+  sharer-yes n a h p = and-yes (not-yes (ne-eqb n v h)) (reads-from t e r (place t e v r) n a p)
 
   sharer-of : (n : ℕ) → n < 128 → isSharer t e v r n ≡ true → SharedAt t e v r
   unfolding isSharer
   sharer-of n l h =
-      let (a, f) = both (eqb (at (t .state) n) 1) (not (eqb n v) && eqb (place t e n r) (place t e v r)) h in
-      let (b, p) = both (not (eqb n v)) (eqb (place t e n r) (place t e v r)) f in
-      (n, (l, eqb-true _ 1 a), not-of n v b, eqb-true _ _ p)
+      let (b, f) = both (not (eqb n v)) (readsFrom t e r (place t e v r) n) h in
+      let (a, p) = from-reads t e r (place t e v r) n l f in
+      (n, a, not-of n v b, p)
 
   pub shared-decides : Decides (sharedAt t e v r) (SharedAt t e v r)
   unfolding sharedAt

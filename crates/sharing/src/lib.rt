@@ -1,14 +1,21 @@
-// Is a row shared, and is there a free place?
+// Where a row is read and by how many, and is there a free place?
 ghost use mathlib.Core.Path.{_≡_};
-ghost use Rattle.basics.specs.Decide.{Decides};
 ghost use Rattle.trees.specs.Trees.{treeOf, tableOf};
 ghost use Rattle.tree.specs.Rules.{foundOf};
-ghost use Rattle.sharing.specs.Sharing.{freeEntry, Sharing, SharedAt};
+ghost use Rattle.reading.specs.Lookup.{Looking};
+ghost use Rattle.sharing.specs.Sharing.{Finds, freeEntry};
+use measures::Place;
 use measures::Row;
 use tree::Found;
 
-// Does another living version read the row from the place from which the version at node v reads it?
-pub fn shared<'a>(
+// The place from which a version reads a row, and how many living versions read it from there.
+pub struct Looked {
+    pub place: Place,
+    pub sharers: usize,
+}
+
+// Looks a row up for the version at node v.
+pub fn lookup<'a>(
     state: &'a [u8; 128],
     tag: &'a [u16; 128],
     parent: &'a [u8; 128],
@@ -17,24 +24,23 @@ pub fn shared<'a>(
     row: &'a [u16],
     v: usize,
     r: Row,
-) -> bool
-    requires { ⌜ Sharing (treeOf (now state) (now tag) (now parent)) (tableOf rows (now node) (now row)) v ⌝ }
-    ensures { λ b. ⌜ Decides b (SharedAt (treeOf (now (state .entry)) (now (tag .entry)) (now (parent .entry))) (tableOf rows (now (node .entry)) (now (row .entry))) v (r .0)) ⌝ }
+) -> Looked
+    requires { ⌜ Looking (treeOf (now state) (now tag) (now parent)) (tableOf rows (now node) (now row)) v ⌝ }
+    ensures { λ x. ⌜ Finds (treeOf (now (state .entry)) (now (tag .entry)) (now (parent .entry))) (tableOf rows (now (node .entry)) (now (row .entry))) v (r .0) x ⌝ }
 {
-    let place = reading::lookup(state, tag, parent, rows, node, row, v, r);
+    let place = reading::climb(state, tag, parent, rows, node, row, v, r);
+    let mut sharers: usize = 0;
     let mut n: usize = 0;
     while n < 128 {
         if state[n] == 1 {
-            if n != v {
-                let other = reading::lookup(state, tag, parent, rows, node, row, n, r);
-                if measures::same_place(place, other) {
-                    return true;
-                }
+            let other = reading::climb(state, tag, parent, rows, node, row, n, r);
+            if measures::same_place(place, other) {
+                sharers += 1;
             }
         }
         n += 1;
     }
-    false
+    Looked { place, sharers }
 }
 
 // The first entry that is free.

@@ -1,7 +1,7 @@
 -- A row that is read is short; then a call that asks, with its line, whose number is the one that the call answered. Assumes nothing.
 use mathlib.Core.Path.{_≡_, sym, _∙_}
 use mathlib.Core.Logic.{_≢_, by-cases}
-use mathlib.Core.List.{List, []}
+use mathlib.Core.List.{List, [], _∷_}
 use mathlib.Core.Option.{Option, none, some}
 use Prim.Native.Nat.{ℕ, _≤_}
 use native.Mathlib.Decide.{decLe}
@@ -11,25 +11,23 @@ use Rattle.measures.specs.Measures.{bytesAt, beginsAt}
 use Rattle.records.specs.Records.{Records, tagPlace}
 use Rattle.records.specs.Sound.{Sound}
 use Rattle.model.specs.Call.{read, count, one}
-use Rattle.answers.specs.Answers.{Refusal, handed, row, refused}
+use Rattle.answers.specs.Answers.{Refusal, handed, row, refusedOf}
 use Rattle.answers.specs.Tests.{refusal, unless}
 use Rattle.counting.specs.Counting.{counted, CountEnds}
-use Rattle.reads.specs.Reads.{ReadEnds, readTests, readAnswer, rowOfTag}
+use Rattle.reads.specs.Reads.{ReadEnds, readTests, readAnswer, rowOfTag, sharersOfTag}
 use Rattle.reads.specs.Sizes.{same-bytes, read-some}
 use Rattle.theorem.specs.Trace.{read-ends, count-ends}
-use Rattle.digits.specs.Digits.{hex}
-use Rattle.text.specs.Text.{line, dash, pairText, shown}
+use Rattle.text.specs.Text.{line, dash, pairText, rowText, shown}
 use Rattle.laying.specs.Laid.{Lays}
 use Rattle.laying.specs.Laws.{lays-as}
-use Rattle.digits.specs.Laws.{hex-size}
-use Rattle.text.specs.Laws.{shown-refused, shown-row, shown-counts, pair-most}
+use Rattle.text.specs.Laws.{shown-refused, shown-row, shown-counts, pair-most, row-most}
 use Rattle.progress.specs.Replying.{Replied, Replies}
 
 -- A read hands out a row's bytes at most
 
-row-most : (v : Option Refusal) (bs : List ℕ) (n : ℕ) → length bs ≤ n → length (unless v refused (row bs) .bytes) ≤ n
-row-most none bs n l = l
-row-most (some r) bs n l = omega arith
+bytes-handed : (v : Option Refusal) (bs : List ℕ) (sharers n : ℕ) → length bs ≤ n → length (unless v (refusedOf 1) (row bs sharers) .bytes) ≤ n
+bytes-handed none bs sharers n l = l
+bytes-handed (some r) bs sharers n l = omega arith
 
 bytes-most : (width : ℕ) (places : List ℕ) (p : ℕ) → length (bytesAt width places p) ≤ width
 unfolding bytesAt
@@ -39,9 +37,9 @@ answer-most : (z : Records) (places : List ℕ) (tag r : ℕ) → length (readAn
 unfolding readAnswer rowOfTag
 answer-most z places tag r =
     let w = z .size .width in
-    row-most (refusal (readTests z (length places) tag r)) (bytesAt w places (tagPlace z tag r)) w (bytes-most w places (tagPlace z tag r))
+    bytes-handed (refusal (readTests z (length places) tag r)) (bytesAt w places (tagPlace z tag r)) (sharersOfTag z tag r) w (bytes-most w places (tagPlace z tag r))
 
-pub read-most : (z : Records) (places : List ℕ) (tag r n : ℕ) {bs : List ℕ} → ReadEnds z places tag r n bs → length bs ≤ z .size .width
+pub read-most : (z : Records) (places : List ℕ) (tag r n : ℕ) {bs : List ℕ} {sharers : ℕ} → ReadEnds z places tag r n bs sharers → length bs ≤ z .size .width
 read-most z places tag r n {bs = bs} e = by-cases (decLe (length bs) (z .size .width))
     (λ l. l)
     (λ f.
@@ -68,24 +66,24 @@ module _ {k from to : ℕ} {out out′ : List ℕ} where
     short = rw d (omega (arith, pair-most u a));
   }
 
-  -- a read, of row q
-  pub read-refused : (z : Records) (places : List ℕ) {tag q x n w : ℕ} {bs : List ℕ} → x ≡ q → w ≡ n → w ≢ 0 → ReadEnds z places tag x n bs → Lays out from (line k w dash) out′ to
+  -- a read, of row q; w and v are the numbers that the line has
+  pub read-refused : (z : Records) (places : List ℕ) {tag q x n w u : ℕ} {bs : List ℕ} → x ≡ q → ReadEnds z places tag x n bs u → w ≡ n → w ≢ 0 → Lays out from (line k w dash) out′ to
       → Replied z places (one (read tag q)) k out from z places out′ to
-  read-refused z places {n = n} {bs = bs} h e f s l = let d = shown-refused (handed n bs []) (λ z. f (e ∙ z)) in rw (sym h) (record {
-    hands = handed n bs [];
+  read-refused z places {n = n} {u = u} {bs = bs} h s e f l = let d = shown-refused (handed n bs (u ∷ [])) (λ z. f (e ∙ z)) in rw (sym h) (record {
+    hands = handed n bs (u ∷ []);
     ends = read-ends s;
     lays = lays-as (rw (e, d)) l;
     short = rw d (omega arith);
   })
 
-  pub read-replied : (z : Records) (places : List ℕ) {tag q x n w : ℕ} {bs : List ℕ} → x ≡ q → w ≡ n → w ≡ 0 → ReadEnds z places tag x n bs → Lays out from (line k 0 (hex bs)) out′ to
+  pub read-replied : (z : Records) (places : List ℕ) {tag q x n w u v : ℕ} {bs : List ℕ} → x ≡ q → ReadEnds z places tag x n bs u → w ≡ n → w ≡ 0 → Lays out from (line k 0 (rowText bs v)) out′ to → v ≡ u
       → Replied z places (one (read tag q)) k out from z places out′ to
-  read-replied z places {tag = tag} {x = x} {n = n} {bs = bs} h e f s l =
+  read-replied z places {tag = tag} {x = x} {n = n} {u = u} {v = v} {bs = bs} h s e f l m =
       let g = sym e ∙ f in
-      let d : shown (handed n bs []) ≡ hex bs = rw g (shown-row bs (read-some z places tag x s g)) in
+      let d : shown (handed n bs (u ∷ [])) ≡ rowText bs v = rw (g, m) (shown-row bs u (read-some z places tag x s g)) in
       rw (sym h) (record {
-        hands = handed n bs [];
+        hands = handed n bs (u ∷ []);
         ends = read-ends s;
         lays = lays-as (rw (d, g)) l;
-        short = rw d (omega (arith, hex-size bs, read-most z places tag x n s));
+        short = rw d (omega (arith, row-most bs v, read-most z places tag x n s));
       })

@@ -36,6 +36,7 @@ pub fn read<'a>(
 {
     let tree = run.tree;
     let mut number: u8 = 0;
+    let mut sharers: usize = 0;
     let bytes = queries::read(
         run.size,
         tree,
@@ -45,12 +46,13 @@ pub fn read<'a>(
         tag,
         Row(widen::pair(r)),
         &mut number,
+        &mut sharers,
     );
     let answer = widen::byte(number);
     if answer != 0 {
         let end = text::plain_line(out, run.end, run.line, answer);
         return progress::on(run, tree, end);
     }
-    let end = text::row_line(out, run.end, run.line, bytes);
+    let end = text::row_line(out, run.end, run.line, bytes, sharers);
     progress::on(run, tree, end)
 }

@@ -1,7 +1,7 @@
 -- The step theorems, from the very promises of the functions that run: where a store agrees with the reference model before a call, what the
 -- call answers is what the model answers, and what it leaves agrees with the model after the call. Assumes nothing.
 use mathlib.Core.Path.{_≡_, _∙_}
-use mathlib.Core.List.{List, []}
+use mathlib.Core.List.{List, [], _∷_}
 use Prim.Native.Nat.{ℕ}
 use Rattle.trees.specs.declared.Tree.{Tree}
 use Rattle.records.specs.Records.{Records}
@@ -34,10 +34,10 @@ pub record Runs (z : Records) (places : List ℕ) (m : Model) : Type 0 where
   pub agrees : Agrees z places m
 
 module _ (z : Records) (places : List ℕ) (m : Model) (run : Runs z places m) where
-  -- read: the number and the row are the model's, and nothing has changed
-  pub read-call : (tag r number : ℕ) (bytes : List ℕ) → handed number bytes [] ≡ readAnswer z places tag r
-      → (handed number bytes [] ≡ answer (z .size) m (read tag r)) × Runs z places (after (z .size) m (read tag r))
-  read-call tag r number bytes h =
+  -- read: the number, the row and how many share it are the model's, and nothing has changed
+  pub read-call : (tag r number : ℕ) (bytes : List ℕ) (sharers : ℕ) → handed number bytes (sharers ∷ []) ≡ readAnswer z places tag r
+      → (handed number bytes (sharers ∷ []) ≡ answer (z .size) m (read tag r)) × Runs z places (after (z .size) m (read tag r))
+  read-call tag r number bytes sharers h =
       let (e, a) = step-agree (z .size) (run .agrees) (read tag r) (read-step z places (run .store) tag r) in
       (h ∙ e, record { store = run .store; whole = run .whole; agrees = a })
 

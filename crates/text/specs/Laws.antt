@@ -3,15 +3,15 @@ use mathlib.Core.Path.{_≡_, refl, ap}
 use mathlib.Core.Logic.{_≢_}
 use mathlib.Core.Bool.{Bool, true, false, cond}
 use mathlib.Core.List.{List, [], _∷_, _++_}
-use Prim.Native.Nat.{ℕ, _+_, _≤_}
+use Prim.Native.Nat.{ℕ, _+_, _*_, _≤_}
 use native.Mathlib.Omega.{arith}
 use lib.Dec.{eqb}
 use lib.ListN.{length, length-append}
 use borrow.Author.Tests.{ne-eqb}
 use Rattle.answers.specs.Answers.{Answer, handed, row, counts}
 use Rattle.digits.specs.Digits.{decimal, hex}
-use Rattle.digits.specs.Laws.{decimal-most}
-use Rattle.text.specs.Text.{head, line, pairText, shown, answerLine, spaced, space, dash, newline}
+use Rattle.digits.specs.Laws.{decimal-most, hex-size}
+use Rattle.text.specs.Text.{head, line, pairText, rowText, shown, answerLine, spaced, space, dash, newline}
 use Rattle.laying.specs.Laid.{Lays}
 use Rattle.laying.specs.Laws.{lays-then}
 
@@ -29,10 +29,10 @@ shown-plain n = go (eqb n 0)
     go true = refl
     go false = refl
 
-pub shown-row : (bs : List ℕ) → bs ≢ [] → shown (row bs) ≡ hex bs
-unfolding shown spaced
-shown-row [] e = absurd (e refl)
-shown-row (b ∷ bs) e = refl
+pub shown-row : (bs : List ℕ) (sharers : ℕ) → bs ≢ [] → shown (row bs sharers) ≡ rowText bs sharers
+unfolding shown spaced rowText
+shown-row [] sharers e = absurd (e refl)
+shown-row (b ∷ bs) sharers e = refl
 
 pub shown-counts : (used snapshots : ℕ) → shown (counts used snapshots) ≡ pairText used snapshots
 unfolding shown spaced pairText
@@ -83,3 +83,15 @@ pair-laid u s x y z = lays-then x (lays-then y z)
 
 pub pair-room : (u s : ℕ) {b : List ℕ} {p : ℕ} {a : List ℕ} {to : ℕ} → Lays b p (pairText u s) a to → (to ≤ p + 9) × (length a ≡ length b)
 pair-room u s l = (omega (arith, l .ends, pair-most u s), l .size)
+
+pub row-most : (bs : List ℕ) (n : ℕ) → length (rowText bs n) ≤ 5 + 2 * length bs
+unfolding rowText
+row-most bs n = omega (arith, hex-size bs, decimal-most n, length-append (hex bs) (space ++ decimal n), length-append space (decimal n))
+
+pub row-laid : (bs : List ℕ) (n : ℕ) {b : List ℕ} {p : ℕ} {a₁ a₂ a : List ℕ} {to₁ to₂ to : ℕ}
+    → Lays b p (hex bs) a₁ to₁ → Lays a₁ to₁ space a₂ to₂ → Lays a₂ to₂ (decimal n) a to → Lays b p (rowText bs n) a to
+unfolding rowText
+row-laid bs n x y z = lays-then x (lays-then y z)
+
+pub row-room : (bs : List ℕ) (n : ℕ) {b : List ℕ} {p : ℕ} {a : List ℕ} {to : ℕ} → Lays b p (rowText bs n) a to → (to ≤ p + (5 + 2 * length bs)) × (length a ≡ length b)
+row-room bs n l = (omega (arith, l .ends, row-most bs n), l .size)

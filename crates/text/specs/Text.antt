@@ -26,6 +26,10 @@ line k n shown = head k n ++ (shown ++ newline)
 unfoldable pub pairText : ℕ → ℕ → List ℕ
 pairText used snapshots = decimal used ++ (space ++ decimal snapshots)
 
+-- a row's bytes and how many share it
+unfoldable pub rowText : List ℕ → ℕ → List ℕ
+rowText bytes sharers = hex bytes ++ (space ++ decimal sharers)
+
 -- pieces with a space between each two; a dash for none
 unfoldable pub spaced : List (List ℕ) → List ℕ
 spaced [] = dash

@@ -1,8 +1,7 @@
 // Lines of text, laid into lent bytes from a position on. Each function returns the position behind what it laid.
 ghost use Prim.Native.Nat.{_+_, _*_, _≤_};
 ghost use lib.ListN.{length};
-ghost use Rattle.digits.specs.Digits.{hex};
-ghost use Rattle.text.specs.Text.{head, line, dash, pairText};
+ghost use Rattle.text.specs.Text.{head, line, dash, pairText, rowText};
 ghost use Rattle.laying.specs.Laid.{Lays};
 
 // What a line begins with: its own number and the answer's.
@@ -26,6 +25,16 @@ fn pair(out: &mut [u8], at: usize, used: usize, snapshots: usize) -> usize
     digits::decimal(out, b, snapshots)
 }
 
+// A row's bytes and how many share it.
+fn row(out: &mut [u8], at: usize, bytes: &[u8], sharers: usize) -> usize
+    requires { ⌜ at + (5 + 2 * length (now bytes)) ≤ length (now out) ⌝ }
+    ensures { λ to. ⌜ Lays (now (out .entry)) at (rowText (now (bytes .entry)) sharers) (now (out .exit)) to ⌝ }
+{
+    let a = digits::hex(out, at, bytes);
+    let b = laying::put(out, a, 32);
+    digits::decimal(out, b, sharers)
+}
+
 // The line of an answer that shows nothing.
 pub fn plain_line(out: &mut [u8], at: usize, k: usize, n: usize) -> usize
     requires { ⌜ at + 12 ≤ length (now out) ⌝ }
@@ -37,12 +46,12 @@ pub fn plain_line(out: &mut [u8], at: usize, k: usize, n: usize) -> usize
 }
 
 // The line of a row.
-pub fn row_line(out: &mut [u8], at: usize, k: usize, bytes: &[u8]) -> usize
-    requires { ⌜ (at + 11) + 2 * length (now bytes) ≤ length (now out) ⌝ }
-    ensures { λ to. ⌜ Lays (now (out .entry)) at (line k 0 (hex (now (bytes .entry)))) (now (out .exit)) to ⌝ }
+pub fn row_line(out: &mut [u8], at: usize, k: usize, bytes: &[u8], sharers: usize) -> usize
+    requires { ⌜ (at + 16) + 2 * length (now bytes) ≤ length (now out) ⌝ }
+    ensures { λ to. ⌜ Lays (now (out .entry)) at (line k 0 (rowText (now (bytes .entry)) sharers)) (now (out .exit)) to ⌝ }
 {
     let a = head(out, at, k, 0);
-    let b = digits::hex(out, a, bytes);
+    let b = row(out, a, bytes, sharers);
     laying::put(out, b, 10)
 }
 

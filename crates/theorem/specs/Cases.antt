@@ -15,7 +15,7 @@ use Rattle.answers.specs.Tests.{refusal, verdictNumber, inMeasure, openTests}
 use Rattle.answers.specs.Laws.{verdict-none}
 use Rattle.basics.specs.Equal.{equal}
 use Rattle.model.specs.Call.{Single, snapshot, read, write, delete, count, Call, one, border}
-use Rattle.copies.specs.Copies.{any, different, alive, snapshotsAlive, shared, placesUsed, adopt, put, without}
+use Rattle.copies.specs.Copies.{any, only, different, alive, snapshotsAlive, shared, sharers, placesUsed, adopt, put, without}
 use Rattle.model.specs.Model.{tests, accepted, effect, opened, verdict, answer, after, borderTests, bordered, reply, next, answers, final}
 use Rattle.opening.specs.Opening.{openVerdict, Opening}
 use Rattle.theorem.specs.Trace.{State, state, Call-ends, Trace, over}
@@ -78,18 +78,25 @@ on cs = calling (map one cs)
 abbrev eight : ℕ → List ℕ
 eight b = replicate 8 b
 
--- a number alone; a row that was read; places in use and snapshots alive; a number, and how many rows were done
+-- a number alone; a row that was read, and how many share it; places in use and snapshots alive; a number, and how many rows were done
 abbrev says : ℕ → Answer
 says n = handed n [] []
 
-abbrev reads : List ℕ → Answer
-reads bs = handed 0 bs []
+abbrev reads : List ℕ → ℕ → Answer
+reads bs n = handed 0 bs (n ∷ [])
 
 abbrev counted : ℕ → ℕ → Answer
 counted u a = handed 0 [] (u ∷ a ∷ [])
 
 abbrev ends : ℕ → ℕ → Answer
 ends n d = handed n [] (d ∷ [])
+
+-- the rows 0 to 3 of a version, and what is handed out of them
+abbrev all : ℕ → List Single
+all t = read t 0 ∷ read t 1 ∷ read t 2 ∷ read t 3 ∷ []
+
+abbrev alike : List ℕ → ℕ → List Answer
+alike bs n = reads bs n ∷ reads bs n ∷ reads bs n ∷ reads bs n ∷ []
 
 abbrev pub cases : List Case
 cases =
@@ -98,15 +105,15 @@ cases =
     ∷ turned 1025 8 2000 16000 975 3443 1
     ∷ turned 4 8 3 24 0 518 1
     -- after opening: the last row is zero, and there is no row after it
-    ∷ on (read 0 3 ∷ []) (reads (eight 0) ∷ [])
-    ∷ on (read 0 4 ∷ []) (says 3 ∷ [])
+    ∷ on (read 0 3 ∷ []) (reads (eight 0) 1 ∷ [])
+    ∷ on (read 0 4 ∷ []) (ends 3 0 ∷ [])
     -- the tags of a snapshot: 0; itself, not alive; itself, alive
     ∷ on (snapshot 0 0 ∷ []) (says 4 ∷ [])
     ∷ on (snapshot 9 9 ∷ []) (says 21 ∷ [])
     ∷ on (snapshot 0 9 ∷ snapshot 9 9 ∷ []) (says 0 ∷ says 22 ∷ [])
     -- a snapshot of a snapshot keeps its rows, and its deletion leaves the other's
     ∷ on (snapshot 0 7 ∷ snapshot 7 8 ∷ write 7 0 (eight 1) ∷ read 8 0 ∷ count ∷ delete 8 ∷ read 7 0 ∷ count ∷ [])
-    (says 0 ∷ says 0 ∷ says 0 ∷ reads (eight 0) ∷ counted 5 2 ∷ says 0 ∷ reads (eight 1) ∷ counted 5 1 ∷ [])
+    (says 0 ∷ says 0 ∷ says 0 ∷ reads (eight 0) 2 ∷ counted 5 2 ∷ says 0 ∷ reads (eight 1) 1 ∷ counted 5 1 ∷ [])
     -- every place in use: a shared row is refused, a row of one's own is not, the origin's alike; a deletion gives its places back
     ∷ on
     (snapshot 0 7 ∷ write 7 0 (eight 1) ∷ write 7 1 (eight 1) ∷ write 7 2 (eight 1) ∷ write 7 0 (eight 2) ∷ write 0 2 (eight 3) ∷ write 0 0 (eight 3)
@@ -117,21 +124,26 @@ cases =
     ∷ on (snapshot 0 7 ∷ write 7 0 (eight 1) ∷ write 7 1 (eight 1) ∷ write 7 2 (eight 0) ∷ write 7 2 (eight 1) ∷ count ∷ [])
     (says 0 ∷ says 0 ∷ says 0 ∷ says 0 ∷ says 24 ∷ counted 6 1 ∷ [])
     ∷ on (snapshot 0 7 ∷ snapshot 7 8 ∷ write 7 0 (eight 0) ∷ count ∷ []) (says 0 ∷ says 0 ∷ says 0 ∷ counted 4 2 ∷ [])
+    -- who shares a row: the origin alone; with snapshots 7 of 0 and 8 of 7, three; where 7 has written, 7 alone, and the two others; 0 with a refusal
+    ∷ on (all 0) (alike (eight 0) 1)
+    ∷ on (snapshot 0 7 ∷ snapshot 7 8 ∷ (all 0 ++ (all 7 ++ all 8))) (says 0 ∷ says 0 ∷ (alike (eight 0) 3 ++ (alike (eight 0) 3 ++ alike (eight 0) 3)))
+    ∷ on (snapshot 0 7 ∷ snapshot 7 8 ∷ write 7 0 (eight 1) ∷ read 7 0 ∷ read 0 0 ∷ read 8 0 ∷ read 7 1 ∷ read 7 4 ∷ read 9 0 ∷ [])
+    (says 0 ∷ says 0 ∷ says 0 ∷ reads (eight 1) 1 ∷ reads (eight 0) 2 ∷ reads (eight 0) 2 ∷ reads (eight 0) 3 ∷ ends 3 0 ∷ ends 21 0 ∷ [])
     -- a border of five rows that ends in 24 at its third, with two places free: two rows are written, and those behind are not
     ∷ calling
     (one (snapshot 0 7) ∷ border 7 (0 ∷ 1 ∷ 2 ∷ 0 ∷ 3 ∷ []) (eight 1 ++ (eight 2 ++ (eight 3 ++ (eight 4 ++ eight 0)))) ∷ one (read 7 0) ∷ one (read 7 1) ∷ one (read 7 2) ∷ one count ∷ [])
-    (says 0 ∷ ends 24 2 ∷ reads (eight 1) ∷ reads (eight 2) ∷ reads (eight 0) ∷ counted 6 1 ∷ [])
+    (says 0 ∷ ends 24 2 ∷ reads (eight 1) 1 ∷ reads (eight 2) 1 ∷ reads (eight 0) 2 ∷ counted 6 1 ∷ [])
     -- one that ends in 3; one of a row twice, as it is and with other bytes
-    ∷ calling (border 0 (3 ∷ 4 ∷ 2 ∷ []) (eight 1 ++ (eight 2 ++ eight 3)) ∷ one (read 0 3) ∷ one (read 0 2) ∷ []) (ends 3 1 ∷ reads (eight 1) ∷ reads (eight 0) ∷ [])
-    ∷ calling (border 0 (3 ∷ 3 ∷ []) (eight 0 ++ eight 5) ∷ one (read 0 3) ∷ []) (ends 0 2 ∷ reads (eight 5) ∷ [])
+    ∷ calling (border 0 (3 ∷ 4 ∷ 2 ∷ []) (eight 1 ++ (eight 2 ++ eight 3)) ∷ one (read 0 3) ∷ one (read 0 2) ∷ []) (ends 3 1 ∷ reads (eight 1) 1 ∷ reads (eight 0) 1 ∷ [])
+    ∷ calling (border 0 (3 ∷ 3 ∷ []) (eight 0 ++ eight 5) ∷ one (read 0 3) ∷ []) (ends 0 2 ∷ reads (eight 5) 1 ∷ [])
     -- no rows, of the origin and of a version that is not alive; 64 rows; 65 rows with a wrong length; one row with a wrong length
     ∷ calling (border 0 [] [] ∷ border 9 [] [] ∷ []) (ends 0 0 ∷ ends 21 0 ∷ [])
     ∷ calling (border 0 (replicate 64 1) (replicate 512 6) ∷ border 0 (replicate 65 1) (replicate 512 6) ∷ border 0 (1 ∷ []) (replicate 9 6) ∷ []) (ends 0 64 ∷ ends 25 0 ∷ ends 2 0 ∷ [])
     ∷ []
 
 pub cases-met : AllMeet cases
-unfolding equal rowsWith any different alive snapshotsAlive shared placesUsed refusal inMeasure openTests inOrder tests accepted adopt put without effect opened verdict answer after borderTests bordered reply next answers
-cases-met = ((refl, refl), ((refl, refl), ((refl, refl), ((refl, refl), ((refl, refl), ((refl, refl), ((refl, refl), ((refl, refl), ((refl, refl), ((refl, refl), ((refl, refl), ((refl, refl), ((refl, refl), ((refl, refl), ((refl, refl), ((refl, refl), ((refl, refl), ((refl, refl), tt))))))))))))))))))
+unfolding equal rowsWith any only different alive snapshotsAlive shared sharers placesUsed refusal inMeasure openTests inOrder tests accepted adopt put without effect opened verdict answer after borderTests bordered reply next answers
+cases-met = ((refl, refl), ((refl, refl), ((refl, refl), ((refl, refl), ((refl, refl), ((refl, refl), ((refl, refl), ((refl, refl), ((refl, refl), ((refl, refl), ((refl, refl), ((refl, refl), ((refl, refl), ((refl, refl), ((refl, refl), ((refl, refl), ((refl, refl), ((refl, refl), ((refl, refl), ((refl, refl), ((refl, refl), tt)))))))))))))))))))))
 
 -- buffers of a line's lengths
 pub record Lent (c : Case) (p n r : List ℕ) : Type 0 where

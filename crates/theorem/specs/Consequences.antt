@@ -1,4 +1,4 @@
--- What follows from the reference model: when a write and a snapshot are accepted, that a write of the bytes that are there changes nothing, what
+-- What follows from the reference model: what a read tells, when a write and a snapshot are accepted, that a write of the bytes that are there changes nothing, what
 -- a delete leaves alone, that 20 is never answered, and that a version lives on and reads as it was left. Stores.antt says the same of stores. Assumes nothing.
 use mathlib.Core.Path.{_≡_, refl, sym, _∙_, ap}
 use mathlib.Core.Logic.{_≢_, _↔_}
@@ -17,13 +17,14 @@ use Rattle.measures.specs.Measures.{rowsWith}
 use Rattle.measures.specs.Rows.{rows-long}
 use Rattle.model.specs.Call.{Single, snapshot, read, write, delete, count, Call, one, border}
 use Rattle.answers.specs.Answers.{Refusal, bad-length, bad-row, unknown-tag, places-full, too-many-rows, number, Answer, done, row, refusedOf, refused}
-use Rattle.copies.specs.Copies.{Cell, alive, snapshotsAlive, shared, placesUsed, adopt, renewed}
+use Rattle.copies.specs.Copies.{Cell, alive, snapshotsAlive, shared, sharers, placesUsed, adopt, renewed}
 use Rattle.model.specs.Model.{Model, tests, accepted, effect, verdict, answer, after, borderTests, bordered, reply, next, final}
 use Rattle.answers.specs.Tests.{Tests, orElse, refusal, unless, verdictNumber}
 use Rattle.answers.specs.Laws.{refusal-next, refusal-none, number-some, verdict-none}
 use Rattle.answers.specs.InOrder.{stopped, inOrder, endedWith}
 use Rattle.answers.specs.InOrderLaws.{order-refusal, order-keeps, order-all}
 use Rattle.copies.specs.Living.{alive-cons, alive-stays}
+use Rattle.copies.specs.Counting.{sharers-some, sharers-shared}
 use Rattle.maps.specs.Updates.{put-off}
 use Rattle.agreement.specs.Verdicts.{none-passed}
 
@@ -104,6 +105,14 @@ module _ (z : Size) (m : Model) where
   untouched-never-full t r =
       rw (equal-refl (m .rows .content (t, r))) (never-full _ _ _ (shared (m .snapshots) (m .rows .mark) t r && leb (z .places) (placesUsed (z .rows) (m .snapshots) (m .rows .mark))))
 
+  -- a read of a living version's row is accepted; its number counts that version, and is above 1 exactly if the row is shared
+  pub read-tells : (t r : ℕ) → r < z .rows → alive (m .snapshots) t ≡ true
+      → (n : ℕ) × (answer z m (read t r) ≡ row (m .rows .content (t, r)) n) × (0 < n) × ((1 < n) ↔ (shared (m .snapshots) (m .rows .mark) t r ≡ true))
+  unfolding answer verdict tests accepted
+  read-tells t r l a =
+      let v : verdict z m (read t r) ≡ none = refusal-next _ _ (lt-leb (z .rows) r l) ∙ refusal-next _ _ (ap not a) ∙ refusal-none in
+      (sharers (m .snapshots) (m .rows .mark) t r, rw v, sharers-some (m .snapshots) (m .rows .mark) t r a, sharers-shared (m .snapshots) (m .rows .mark) t r a)
+
   -- what a snapshot that no test refuses has passed, and back
   snapshot-none : (s t : ℕ) → t ≢ 0 → alive (m .snapshots) s ≡ true → alive (m .snapshots) t ≡ false → snapshotsAlive (m .snapshots) < 64 → verdict z m (snapshot s t) ≡ none
   unfolding verdict tests
@@ -151,7 +160,7 @@ other n (t ∷ ts) a o h = go (t .0) (other n ts a (o .1) h)
 not-unsound : (z : Size) (m : Model) (c : Single) → answer z m c .number ≢ 20
 unfolding answer verdict tests accepted
 not-unsound z m (snapshot s t) = other 0 (tests z (m .snapshots) (m .rows .mark) (m .rows .content) (snapshot s t)) done (omega arith, (omega arith, (omega arith, (omega arith, tt)))) (omega arith)
-not-unsound z m (read t r) = other 0 (tests z (m .snapshots) (m .rows .mark) (m .rows .content) (read t r)) (row (m .rows .content (t, r))) (omega arith, (omega arith, tt)) (omega arith)
+not-unsound z m (read t r) = other 1 (tests z (m .snapshots) (m .rows .mark) (m .rows .content) (read t r)) (accepted z (m .snapshots) (m .rows .mark) (m .rows .content) (read t r)) (omega arith, (omega arith, tt)) (omega arith)
 not-unsound z m (write t r bs) = other 0 (tests z (m .snapshots) (m .rows .mark) (m .rows .content) (write t r bs)) done (omega arith, (omega arith, (omega arith, (omega arith, tt)))) (omega arith)
 not-unsound z m (delete t) = other 0 (tests z (m .snapshots) (m .rows .mark) (m .rows .content) (delete t)) done (omega arith, (omega arith, tt)) (omega arith)
 not-unsound z m count = other 2 [] (accepted z (m .snapshots) (m .rows .mark) (m .rows .content) count) tt (omega arith)

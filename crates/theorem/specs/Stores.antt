@@ -8,8 +8,8 @@ use lib.ListN.{length}
 use Rattle.measures.specs.declared.Size.{Size}
 use Rattle.records.specs.Records.{Records, table, lives, tagPlace}
 use Rattle.trees.specs.Trees.{snapshots, used}
-use Rattle.answers.specs.Answers.{Answer}
-use Rattle.model.specs.Call.{snapshot, write, delete, Call, one, border}
+use Rattle.answers.specs.Answers.{Answer, row}
+use Rattle.model.specs.Call.{snapshot, read, write, delete, Call, one, border}
 use Rattle.model.specs.Model.{Model, reply, next, answers, final}
 use Rattle.copies.specs.Copies.{alive, snapshotsAlive, shared}
 use Rattle.copies.specs.Counting.{shared-yes, shared-some}
@@ -133,6 +133,17 @@ module _ {s s′ : State} {cs : List Call} {hs : List Answer} (st : Store (s .re
       -- a write of the bytes that the version reads there is accepted and leaves every record and every byte as it was
       pub write-untouched : bs ≡ rowOfTag (s′ .records) (s′ .places) tag r → (h .number ≡ 0) × (s″ ≡ s′)
       write-untouched e = (write-accepted (λ y. y .2 e), call-leaves (stays-store .sound) k ∙ leaves-untouched s′ tag r bs e)
+
+    -- a read of a living version's row is accepted; its number counts that version, and is above 1 exactly if another reads the row from its place
+    pub read-tells : {tag r : ℕ} → Call-ends (s′ .records) (s′ .places) (one (read tag r)) h s″ → r < s′ .records .size .rows → lives (s′ .records) tag ≡ true
+        → (n : ℕ) × (h ≡ row (rowOfTag (s′ .records) (s′ .places) tag r) n) × (0 < n) × ((1 < n) ↔ Shares (s′ .records) tag r)
+    unfolding reply
+    read-tells {tag} {r} k low a =
+        let e = equals s′ stays-store stays-whole in
+        let b = sym (e .living tag) ∙ a in
+        let (n, x, some, many) = model.read-tells (s′ .records .size) (its s′ stays-store stays-whole) tag r low b in
+        let y = shares-iff s′ stays-store stays-whole tag r a low in
+        (n, answered s′ stays-store stays-whole k ∙ x ∙ ap (λ (bs : List ℕ). row bs n) (sym (e .rows tag r b low)), some, (λ l. y .1 (many .0 l), λ i. many .1 (y .0 i)))
 
     -- a border that is answered with 0 has done every row
     pub border-all : {tag : ℕ} {rows bytes : List ℕ} → Call-ends (s′ .records) (s′ .places) (border tag rows bytes) h s″ → h .number ≡ 0 → h .numbers ≡ length rows ∷ []

@@ -11,12 +11,14 @@ use Rattle.model.specs.Call.{Call}
 use Rattle.answers.specs.Answers.{Answer}
 use Rattle.model.specs.Model.{Model, opened, reply, next, answers, final}
 use Rattle.copies.specs.Copies.{placesUsed}
+use Rattle.maps.specs.Keeping.{sharers-same}
 use Rattle.agreement.specs.Steps.{used-agree}
 use Rattle.edits.specs.Edits.{Whole}
 use Rattle.opening.specs.Opening.{openVerdict, Opening}
 use Rattle.reads.specs.Reads.{rowOfTag}
 use Rattle.view.specs.View.{view, Store, started}
 use Rattle.view.specs.Viewed.{view-alive, view-used}
+use Rattle.view.specs.Sharers.{view-sharers}
 use Rattle.steps.specs.Calls.{Runs, read-call, count-call, snapshot-call, write-call, delete-call}
 use Rattle.steps.specs.Bordered.{border-call}
 use Rattle.steps.specs.Begins.{open-call, start-call}
@@ -29,8 +31,8 @@ unfolding reply next
 one-call {z} {places} {m} run (snapshot-ends {source = source} {new = new} {number = number} {tree = tree} e) =
     let (h, u) = snapshot-call z places m run source new number tree (e .sound (run .store .sound)) in
     (h, refl, u)
-one-call {z} {places} {m} run (read-ends {tag = tag} {r = r} {number = number} {bytes = bytes} e) =
-    let (h, u) = read-call z places m run tag r number bytes (e .sound (run .store .sound)) in
+one-call {z} {places} {m} run (read-ends {tag = tag} {r = r} {number = number} {sharers = sharers} {bytes = bytes} e) =
+    let (h, u) = read-call z places m run tag r number bytes sharers (e .sound (run .store .sound)) in
     (h, refl, u)
 one-call {z} {places} {m} run (write-ends {tag = tag} {r = r} {number = number} {bs = bs} {got = got} e) =
     let (h, u) = write-call z places m run tag r number bs got (e .sound (run .store .sound)) in
@@ -58,6 +60,7 @@ runs-equal size s m e run =
       living = λ t. sym (view-alive (s .records) k (s .places) t) ∙ a .living t;
       rows = λ t r h l. a .content (t, r) (h, rw e l);
       sharing = λ t u r h g l. a .names (t, r) (u, r) (h, rw e l) (g, rw e l);
+      sharers = λ t r h l. sym (view-sharers (s .records) k (s .places) t r (sym (view-alive (s .records) k (s .places) t) ∙ a .living t ∙ h)) ∙ sharers-same (s .records .size .rows) a t r (h, rw e l);
       inUse = sym (view-used (s .records) k (s .places)) ∙ used-agree (s .records .size) (run .agrees) ∙ ap (λ (x : Size). placesUsed (x .rows) (m .snapshots) (m .rows .mark)) e;
     }
 

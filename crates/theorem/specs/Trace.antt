@@ -12,9 +12,9 @@ use Rattle.model.specs.Call.{snapshot, read, write, delete, count, Call, one, b
 use Rattle.answers.specs.Answers.{Answer, handed}
 use Rattle.answers.specs.Tests.{unless}
 use Rattle.model.specs.Model.{Model}
-use Rattle.copies.specs.Copies.{alive, placesUsed}
+use Rattle.copies.specs.Copies.{alive, sharers, placesUsed}
 use Rattle.counting.specs.Counting.{counted, CountEnds}
-use Rattle.reads.specs.Reads.{ReadEnds, rowOfTag}
+use Rattle.reads.specs.Reads.{ReadEnds, rowOfTag, sharersOfTag}
 use Rattle.edits.specs.Edits.{withTree, Whole}
 use Rattle.view.specs.View.{Store}
 use Rattle.takes.specs.Taking.{snapshotVerdict, snapshotTree, SnapshotEnds}
@@ -43,7 +43,8 @@ stateLeft size l places = state (recordsOf size (l .tree) (l .node) (l .row)) pl
 pub data Call-ends (z : Records) (places : List ℕ) : Call → Answer → State → Type 0 where
   snapshot-ends : {source new number : ℕ} {tree : Tree} → SnapshotEnds z source new number tree
       → Call-ends z places (one (snapshot source new)) (handed number [] []) (state (withTree z tree) places)
-  read-ends : {tag r number : ℕ} {bytes : List ℕ} → ReadEnds z places tag r number bytes → Call-ends z places (one (read tag r)) (handed number bytes []) (state z places)
+  read-ends : {tag r number sharers : ℕ} {bytes : List ℕ} → ReadEnds z places tag r number bytes sharers
+      → Call-ends z places (one (read tag r)) (handed number bytes (sharers ∷ [])) (state z places)
   write-ends : {tag r number : ℕ} {bs : List ℕ} {got : Held} → WriteEnds z places tag r bs number got
       → Call-ends z places (one (write tag r bs)) (handed number [] []) (stateHeld (z .size) got)
   border-ends : {tag number done : ℕ} {rows bytes : List ℕ} {got : Held} → BorderEnds z places tag rows bytes number done got
@@ -73,8 +74,8 @@ leftBy s [] = s
 leftBy s (c ∷ cs) = leftBy (leaves s c) cs
 
 -- a store as the model has it: sound records of the size that they began with, and as many bytes as that asks for; the same tags live; every row
--- of every living version reads the model's bytes; two versions read a row from one place exactly if they have one mark there; and as many places
--- are in use as there are different marks
+-- of every living version reads the model's bytes; two versions read a row from one place exactly if they have one mark there, so that as many share
+-- it; and as many places are in use as there are different marks
 pub record Equals (size : Size) (s : State) (m : Model) : Type 0 where
   pub sized : s .records .size ≡ size
   pub store : Store (s .records) (s .places)
@@ -83,4 +84,5 @@ pub record Equals (size : Size) (s : State) (m : Model) : Type 0 where
   pub rows : (t r : ℕ) → alive (m .snapshots) t ≡ true → r < size .rows → rowOfTag (s .records) (s .places) t r ≡ m .rows .content (t, r)
   pub sharing : (t u r : ℕ) → alive (m .snapshots) t ≡ true → alive (m .snapshots) u ≡ true → r < size .rows
       → (tagPlace (s .records) t r ≡ tagPlace (s .records) u r) ↔ (m .rows .mark (t, r) ≡ m .rows .mark (u, r))
+  pub sharers : (t r : ℕ) → alive (m .snapshots) t ≡ true → r < size .rows → sharersOfTag (s .records) t r ≡ sharers (m .snapshots) (m .rows .mark) t r
   pub inUse : used (table (s .records)) ≡ placesUsed (size .rows) (m .snapshots) (m .rows .mark)

@@ -44,10 +44,22 @@ pub fn show_read<'a>(
     r: usize,
 ) {
     let mut answer: u8 = 0;
-    let bytes = queries::read(size, tree, node, row, places, tag, Row(r), &mut answer);
+    let mut sharers: usize = 0;
+    let bytes = queries::read(
+        size,
+        tree,
+        node,
+        row,
+        places,
+        tag,
+        Row(r),
+        &mut answer,
+        &mut sharers,
+    );
     show(b"read tag ", widen::pair(tag));
     show(b" row ", r);
     show(b": answer ", widen::byte(answer));
+    show(b", sharers ", sharers);
     io::write_all(STDOUT_FILENO, b", bytes ");
     show_row(bytes);
     end_line();

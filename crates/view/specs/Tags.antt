@@ -1,22 +1,22 @@
--- The tags of the snapshots at nodes below a number: which are among them, and how many are different. Assumes nothing.
-use mathlib.Core.Path.{_≡_, refl, sym, _∙_}
+-- The tags of the snapshots at nodes below a number: which are among them, and how many that pass a test are different. Assumes nothing.
+use mathlib.Core.Path.{_≡_, refl, sym, _∙_, ap}
 use mathlib.Core.Logic.{_≢_, inl, inr, by-cases}
-use mathlib.Core.Bool.{Bool, true, false, cond}
+use mathlib.Core.Bool.{Bool, true, false, cond, _&&_, and-false}
 use mathlib.Core.List.{List, _∷_}
 use Prim.Native.Nat.{ℕ, zero, suc, _≤_, _<_}
 use native.Mathlib.Decide.{ℕ-discrete}
 use native.Mathlib.Omega.{arith}
 use lib.Dec.{eqb}
 use borrow.Author.Tests.{eqb-true}
-use Rattle.basics.specs.Decide.{at}
+use Rattle.basics.specs.Decide.{at, and-yes}
 use Rattle.basics.specs.Count.{sum, count}
 use Rattle.basics.specs.CountLaws.{one-yes, one-no}
 use Rattle.trees.specs.declared.Tree.{Tree}
 use Rattle.trees.specs.Trees.{isSnapshot}
 use Rattle.trees.specs.Rules.{Tagged}
 use Rattle.tree.specs.Nodes.{snapshot-of}
-use Rattle.copies.specs.Copies.{any, different}
-use Rattle.copies.specs.Members.{In, any-some}
+use Rattle.copies.specs.Copies.{any, only, different}
+use Rattle.copies.specs.Members.{In, any-some, only-in}
 use Rattle.view.specs.View.{tagsBelow}
 
 -- a value that f has nowhere else on the list is one more
@@ -57,22 +57,31 @@ module _ (t : Tree) where
       past true i = inr i
       past false i = i
 
-  -- where living snapshots have different tags, as many as there are snapshots
-  pub tags-different : Tagged t → (n : ℕ) → n ≤ 128 → different (λ u. u) (tagsBelow t n) ≡ count (isSnapshot t) n
-  unfolding tagsBelow different count sum
-  tags-different g zero l = refl
-  tags-different g (suc n) l = go (isSnapshot t n) refl (tags-different g n (omega arith))
+  -- where living snapshots have different tags: as many pass a test as there are snapshots whose tags do
+  pub tags-passing : Tagged t → (p : ℕ → Bool) (n : ℕ) → n ≤ 128 → different (λ u. u) (only p (tagsBelow t n)) ≡ count (λ k. isSnapshot t k && p (at (t .tag) k)) n
+  unfolding tagsBelow only different count sum
+  tags-passing g p zero l = refl
+  tags-passing g p (suc n) l = go (isSnapshot t n) refl (tags-passing g p n (omega arith))
     where
-      fresh : isSnapshot t n ≡ true → (u : ℕ) → In u (tagsBelow t n) → at (t .tag) n ≢ u
+      passes : ℕ → Bool
+      passes k = isSnapshot t k && p (at (t .tag) k)
+
+      passing : List ℕ
+      passing = only p (tagsBelow t n)
+
+      fresh : isSnapshot t n ≡ true → (u : ℕ) → In u passing → at (t .tag) n ≢ u
       fresh x u i e =
-          let (k, m, y, h) = tags-of n u i in
+          let (k, m, y, h) = tags-of n u (only-in p (tagsBelow t n) u .0 i .0) in
           let d : n ≡ k = g .different n k (snapshot-of t n (omega arith) x) (snapshot-of t k (omega arith) y) (e ∙ sym h) in
           omega arith
 
-      go : (b : Bool) → isSnapshot t n ≡ b → different (λ u. u) (tagsBelow t n) ≡ count (isSnapshot t) n
-          → different (λ u. u) (cond b (at (t .tag) n ∷ tagsBelow t n) (tagsBelow t n)) ≡ count (isSnapshot t) (suc n)
-      go true x r = omega (arith, different-new (λ u. u) (at (t .tag) n) (tagsBelow t n) (fresh x), one-yes x)
-      go false x r = omega (arith, one-no x)
+      snapshot : (b : Bool) → isSnapshot t n ≡ true → p (at (t .tag) n) ≡ b → different (λ u. u) passing ≡ count passes n → different (λ u. u) (cond b (at (t .tag) n ∷ passing) passing) ≡ count passes (suc n)
+      snapshot true x y r = omega (arith, different-new (λ u. u) (at (t .tag) n) passing (fresh x), one-yes (and-yes x y))
+      snapshot false x y r = omega (arith, one-no (ap (_&&_ (isSnapshot t n)) y ∙ and-false (isSnapshot t n)))
+
+      go : (b : Bool) → isSnapshot t n ≡ b → different (λ u. u) passing ≡ count passes n → different (λ u. u) (only p (cond b (at (t .tag) n ∷ tagsBelow t n) (tagsBelow t n))) ≡ count passes (suc n)
+      go true x r = snapshot (p (at (t .tag) n)) x refl r
+      go false x r = omega (arith, one-no (ap (λ (b : Bool). b && p (at (t .tag) n)) x))
 
   -- none is the origin's
   pub tags-above : Tagged t → (u : ℕ) → In u (tagsBelow t 128) → 0 ≢ u

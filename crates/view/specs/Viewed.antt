@@ -1,27 +1,28 @@
 -- The view of sound records: who lives, from which place each row is read, and how many places and snapshots that makes. Assumes nothing.
 use mathlib.Core.Path.{_≡_, refl, sym, _∙_, ap}
 use mathlib.Core.Logic.{_↔_, Iff·trans, inl, inr, by-cases}
-use mathlib.Core.Bool.{true}
+use mathlib.Core.Bool.{true, _&&_, and-true}
 use mathlib.Core.List.{List}
 use Prim.Native.Nat.{ℕ, pred, _+_, _<_}
 use native.Mathlib.Decide.{ℕ-discrete}
 use native.Mathlib.Omega.{arith}
 use lib.ListN.{length}
 use Rattle.basics.specs.Decide.{Decides, decides-iff, at}
+use Rattle.basics.specs.CountLaws.{count-cong}
 use Rattle.records.specs.Records.{Records, table, lives}
-use Rattle.trees.specs.Trees.{InUse, Alive, snapshots, used}
+use Rattle.trees.specs.Trees.{InUse, Alive, isSnapshot, snapshots, used}
 use Rattle.trees.specs.Reading.{place}
 use Rattle.records.specs.Sound.{Sound}
 use Rattle.tree.specs.Nodes.{snapshot-yes, snapshot-of}
 use Rattle.reading.specs.Reads.{place-root, place-reads}
 use Rattle.reading.specs.Used.{PlaceRead, used-read, place-low}
 use Rattle.edits.specs.Solve.{version-node, lives-node, version-lives, tag-place, origin-version}
-use Rattle.copies.specs.Copies.{Cell, living, alive, snapshotsAlive, placesUsed, Live}
-use Rattle.copies.specs.Members.{In, test-iff}
+use Rattle.copies.specs.Copies.{Cell, different, living, alive, snapshotsAlive, placesUsed, Live}
+use Rattle.copies.specs.Members.{In, test-iff, only-all}
 use Rattle.copies.specs.Living.{alive-in}
 use Rattle.copies.specs.Counting.{used-among}
 use Rattle.view.specs.View.{tagsBelow, view}
-use Rattle.view.specs.Tags.{different-new, tags-of, tags-in, tags-different, tags-above}
+use Rattle.view.specs.Tags.{different-new, tags-of, tags-in, tags-passing, tags-above}
 use Rattle.view.specs.Places.{rowOfPlace, reads-row, placeInUse, in-use-decides, count-in-use}
 
 module _ (z : Records) (s : Sound z) (places : List ℕ) where
@@ -51,8 +52,11 @@ module _ (z : Records) (s : Sound z) (places : List ℕ) where
   pub view-snapshots : snapshotsAlive (view z places .tags) ≡ snapshots (z .tree)
   unfolding view snapshotsAlive snapshots
   view-snapshots =
-      ap pred (different-new (λ u. u) 0 (tagsBelow (z .tree) 128) (tags-above (z .tree) (s .tagged)))
-      ∙ tags-different (z .tree) (s .tagged) 128 (omega arith)
+      let tags = tagsBelow (z .tree) 128 in
+      ap pred (different-new (λ u. u) 0 tags (tags-above (z .tree) (s .tagged)))
+      ∙ ap (different (λ u. u)) (sym (only-all tags))
+      ∙ tags-passing (z .tree) (s .tagged) (λ u. true) 128 (omega arith)
+      ∙ count-cong (λ k. isSnapshot (z .tree) k && true) (isSnapshot (z .tree)) 128 (λ k l. and-true (isSnapshot (z .tree) k))
 
   -- From which place a row is read: as the node of its version reads it
 

@@ -41,9 +41,9 @@ module _ (z : Records) (places : List ℕ) (r : ℕ) (bs : List ℕ) (v : ℕ) w
   as-read e = rw e (equal-refl (bytesAt (z .size .width) places (place (z .tree) (table z) v r)))
 
   -- what was compared with the bytes in the place that is read
-  pub compared : {b : Bool} {bytes : List ℕ} {q : ℕ} → b ≡ equal bs bytes → bytes ≡ bytesAt (z .size .width) places q → q ≡ place (z .tree) (table z) v r → b ≡ untouchedAt z places r bs v
+  pub compared : {b : Bool} {q : ℕ} → b ≡ equal bs (bytesAt (z .size .width) places q) → q ≡ place (z .tree) (table z) v r → b ≡ untouchedAt z places r bs v
   unfolding untouchedAt
-  compared e f g = e ∙ ap (equal bs) (f ∙ ap (bytesAt (z .size .width) places) g)
+  compared e f = e ∙ ap (λ (q : ℕ). equal bs (bytesAt (z .size .width) places q)) f
 
   pub untouched-passes : untouchedAt z places r bs v ≡ true → refusal (roomTest z places (some v) r bs) ≡ none
   unfolding roomTest

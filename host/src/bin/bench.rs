@@ -312,9 +312,9 @@ fn timed_read<S: Store>(stock: &Stock) -> Repetition {
     let mut out = vec![0; lent.shape.measures.width];
     timed(move |number| {
         let (tag, row) = targets[number % targets.len()];
-        let answer = S::read(black_box(&lent.records), &lent.places, tag, row, &mut out);
+        let (answer, sharers) = S::read(black_box(&lent.records), &lent.places, tag, row, &mut out);
         assert_eq!(answer, 0);
-        black_box(&out);
+        black_box((&out, sharers));
     })
 }
 

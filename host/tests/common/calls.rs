@@ -43,7 +43,7 @@ pub enum Call {
 pub struct Outcome {
     pub answer: u8,
     pub row: Vec<u8>,
-    /// Those that a call sets: the rows that a border did, or a count's two.
+    /// Those that a call sets: a read's sharers, the rows that a border did, or a count's two.
     pub numbers: Vec<usize>,
     /// Something that was lent to be read has changed.
     pub spoilt: bool,
@@ -82,7 +82,7 @@ impl Call {
     /// The outcome if the call is refused before it has done anything.
     pub fn refused(&self, answer: u8) -> Outcome {
         match self {
-            Call::Border { .. } => Outcome::with_numbers(answer, &[0]),
+            Call::Read { .. } | Call::Border { .. } => Outcome::with_numbers(answer, &[0]),
             Call::Count => Outcome::with_numbers(answer, &[0, 0]),
             _ => Outcome::plain(answer),
         }
@@ -176,10 +176,10 @@ impl Call {
                 places_len,
                 out_len,
             } => match copies.read(*places_len, *tag, *row, *out_len) {
-                Err(refusal) => Outcome::plain(refusal),
-                Ok(bytes) => Outcome {
+                Err(refusal) => self.refused(refusal),
+                Ok((bytes, sharers)) => Outcome {
                     row: bytes.to_vec(),
-                    ..Outcome::plain(0)
+                    ..Outcome::with_numbers(0, &[sharers])
                 },
             },
             Call::Write {
@@ -215,13 +215,13 @@ pub fn read<S: Store>(
     out_len: usize,
 ) -> Outcome {
     let mut out = vec![UNFILLED; out_len];
-    let answer = S::read(records, places, tag, row, &mut out);
+    let (answer, sharers) = S::read(records, places, tag, row, &mut out);
     if answer != 0 && out.iter().all(|&byte| byte == UNFILLED) {
         out.clear();
     }
     Outcome {
         row: out,
-        ..Outcome::plain(answer)
+        ..Outcome::with_numbers(answer, &[sharers])
     }
 }
 

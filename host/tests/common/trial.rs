@@ -61,6 +61,10 @@ pub fn adopted(records: &Records, places: &[u8]) -> Copies {
     Copies::of(measures, versions)
 }
 
+fn living_node(records: &Records, tag: u16) -> usize {
+    records.node_of(tag).expect("a living version's node")
+}
+
 impl<S: Store> Trial<S> {
     /// Opens on dirty bytes.
     pub fn open(title: &str, measures: Measures, care: Care) -> Trial<S> {
@@ -130,14 +134,19 @@ impl<S: Store> Trial<S> {
         self.call(&Call::Snapshot { source, tag }).answer
     }
 
-    pub fn read(&mut self, tag: u16, row: usize) -> u8 {
-        let read = Call::Read {
+    pub fn read_of(&self, tag: u16, row: usize) -> Call {
+        Call::Read {
             tag,
             row,
             places_len: self.measures.places_len(),
             out_len: self.measures.width,
-        };
-        self.call(&read).answer
+        }
+    }
+
+    /// Reads a row; gives the answer and the sharers.
+    pub fn read(&mut self, tag: u16, row: usize) -> (u8, usize) {
+        let got = self.call(&self.read_of(tag, row));
+        (got.answer, got.numbers[0])
     }
 
     /// Writes a row full of one byte.
@@ -213,6 +222,7 @@ impl<S: Store> Trial<S> {
             self.check(&equal, &false, call, "equal bytes that are refused");
         }
         self.tally.untouched += 1;
+        self.note_read(call, &got);
         self.note_write(call, !written && !done.is_empty());
         self.note_border(call, &got, done, &before.0);
         if let (Call::Snapshot { tag, .. }, 0) = (call, got.answer) {
@@ -255,7 +265,7 @@ impl<S: Store> Trial<S> {
             return;
         }
         let records = self.parsed();
-        let node = records.node_of(tag).expect("a living version's node");
+        let node = living_node(&records, tag);
         let above = records.parent(node);
         let shape = match (records.children(node), records.is_ghost(above)) {
             (0, false) => "leaf",
@@ -269,13 +279,44 @@ impl<S: Store> Trial<S> {
         self.tally.meet("deletes", shape);
     }
 
+    /// Counts of what kinds a read was.
+    fn note_read(&mut self, call: &Call, got: &Outcome) {
+        let &Call::Read { tag, row, .. } = call else {
+            return;
+        };
+        let accepted = got.answer == 0;
+        let kind = match got.numbers[0] {
+            _ if !accepted => "refused",
+            1 => "a row of its own",
+            2 => "a row of two",
+            65 => "a row of all 65 versions",
+            _ => "a row of several",
+        };
+        self.tally.meet("reads", kind);
+        if accepted && self.shares_past_a_ghost(tag, row) {
+            self.tally.meet("reads", "a row read past a ghost");
+        }
+    }
+
+    /// Whether a ghost lies on the way up between a version and one that shares the row with it.
+    fn shares_past_a_ghost(&self, tag: u16, row: usize) -> bool {
+        let records = self.parsed();
+        let node = living_node(&records, tag);
+        let mut tags = self.copies.tags();
+        tags.retain(|&other| self.copies.shares(tag, other, row));
+        tags.into_iter().any(|other| {
+            let other = living_node(&records, other);
+            records.ghost_between(node, other) || records.ghost_between(other, node)
+        })
+    }
+
     /// Counts to what kind of row a write brought the bytes that were there, and still are.
     fn note_write(&mut self, call: &Call, equal: bool) {
         let (&Call::Write { tag, row, .. }, true) = (call, equal) else {
             return;
         };
         let records = self.parsed();
-        let node = records.node_of(tag).expect("a living version's node");
+        let node = living_node(&records, tag);
         let full = self.copies.count().0 == self.measures.places;
         let kind = match (self.copies.shared(tag, row), tag) {
             (false, _) => "a row of its own",
@@ -394,28 +435,30 @@ impl<S: Store> Trial<S> {
         }
     }
 
-    /// Compares all of it; the store reads every `stride`-th row, the judge every one.
+    /// Compares all of it; each version reads every `stride`-th row, each from another one on, and
+    /// the judge finds every row.
     pub fn compare_all(&mut self, stride: usize) {
         let records = self.parsed();
         self.judge(&records);
         for row in 0..self.measures.rows {
             self.compare_sharing(&records, row);
         }
-        for tag in self.copies.tags() {
+        for (number, tag) in self.copies.tags().into_iter().enumerate() {
             for row in 0..self.measures.rows {
                 self.compare_place(&records, tag, row);
             }
-            for row in (0..self.measures.rows).step_by(stride) {
+            for row in (number % stride..self.measures.rows).step_by(stride) {
                 self.compare_row(tag, row);
             }
         }
         self.compare_count();
     }
 
+    /// What the store reads: the row's bytes, and how many share it.
     fn compare_row(&mut self, tag: u16, row: usize) {
         let got = read::<S>(self.records(), self.places(), tag, row, self.measures.width);
-        let wanted = self.copies.row(tag, row);
-        let same = got.answer == 0 && got.row == wanted;
+        let wanted = (self.copies.row(tag, row), self.copies.sharers(tag, row));
+        let same = got.answer == 0 && got.row == wanted.0 && got.numbers == [wanted.1];
         let at = self.at();
         assert!(same, "{at}: tag {tag} row {row}: {got:?}, not {wanted:?}");
         self.tally.rows += 1;

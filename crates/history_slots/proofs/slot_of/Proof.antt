@@ -16,8 +16,11 @@ pair-requires c κs = search needs
 loop-holds : tie.Need-loop-holds Inv-loop μ-loop
 loop-holds c = search needs
 
-has-tag-requires : tie.Need-has-tag-requires Inv-loop μ-loop
-has-tag-requires c κs = search needs
+tag-at-requires : tie.Need-tag-at-requires Inv-loop μ-loop
+tag-at-requires c κs = search needs
+
+has-requires : tie.Need-has-requires Inv-loop μ-loop
+has-requires c κs = search needs
 
 returns : tie.Need-returns Inv-loop μ-loop
 returns c = search needs
@@ -42,7 +45,8 @@ slot-of-spec =
     μ-loop
     pair-requires
     loop-holds
-    has-tag-requires
+    tag-at-requires
+    has-requires
     returns
     add-s
     loop-less

@@ -10,7 +10,9 @@ fits-requires : tie.Need-fits-requires
 fits-requires c κs = search needs
 
 returns : tie.Need-returns
-returns c = host-unfit (failed (c .before .fits2 .result) (c .before .fits2 .ensures) (c .if1 .taken)) (refl, refl)
+returns c =
+    let out = c .before .before .before .before .before .args .out .now in
+    host-unfit (failed (c .before .fits2 .result) (c .before .fits2 .ensures) (c .if1 .taken)) (refl, λ i. (out, 0))
 
 entries-requires : tie.Need-entries-requires
 entries-requires c κs = passed (c .before .fits2 .result) (c .before .fits2 .ensures) (c .if1 .left)
@@ -28,7 +30,10 @@ slice-aggregate-read-in-2 : tie.Need-slice-aggregate-read-in-2
 slice-aggregate-read-in-2 c = front _ (c .before .before .entries .ensures .1) refl
 
 read-in-requires : tie.Need-read-in-requires
-read-in-requires c κs = ready _ _ (passed (c .before .before .before .before .before .fits2 .result) (c .before .before .before .before .before .fits2 .ensures) (c .before .before .before .before .if1 .left)) (c .before .before .before .entries .ensures) refl refl
+read-in-requires c κs =
+    let n = c .before .before .before .before in
+    let e = n .before in
+    ready _ _ (passed (e .before .fits2 .result) (e .before .fits2 .ensures) (e .if1 .left)) (n .entries .ensures) refl refl
 
 same-length : tie.Need-same-length
 same-length c = search needs

@@ -16,7 +16,7 @@ read-requires : tie.Need-read-requires
 read-requires c κs = search needs
 
 copy-row-requires : tie.Need-copy-row-requires
-copy-row-requires c κs = λ e. read-size (recordsOf _ _ _ _) _ _ _ (c .before .read .ensures .0) e
+copy-row-requires c κs = λ e. read-size (recordsOf _ _ _ _) _ _ _ (c .before .before .read .ensures .0) e
 
 same-length : tie.Need-same-length
 same-length c = search needs
@@ -28,7 +28,12 @@ same-length-3 : tie.Need-same-length-3
 same-length-3 c = search needs
 
 returns : tie.Need-returns
-returns c = read-host (c .before .before .before .before .before .before .before .before .before .before .before .before .before .before .before .before .before .before .before .before .before .pre .fits) (c .before .before .before .before .before .before .before .before .before .before .before .before .before .before .before .size .ensures) (c .before .before .before .before .before .before .before .before .before .before .before .before .load .ensures) _ _ _ (c .before .before .before .before .read .ensures .0) (c .before .before .copy-row .ensures)
+returns c =
+    let q = c .before .before in
+    let a = q .before .before .before in
+    let l = a .before .before .before .before .before .before .before .before .before in
+    let z = l .before .before .before in
+    read-host (z .before .before .before .before .before .before .pre .fits) (z .size .ensures) (l .load .ensures) _ _ _ (a .read .ensures .0) (q .copy-row .ensures)
 
 pub read-in-spec : {M : Type 1} → statement M
 read-in-spec =

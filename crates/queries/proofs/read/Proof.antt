@@ -1,6 +1,7 @@
 -- `queries::read` meets its contract: each return cites the law of its test. Assumes nothing.
 use borrow.Author.Needs.{needs}
 use mathlib.Core.Path.{_≡_, sym, _∙_}
+use mathlib.Core.List.{[], _∷_}
 use mathlib.Core.Option.{some}
 use Prim.Native.Nat.{_<_}
 use native.Mathlib.Nat.{mul-le-mul}
@@ -10,7 +11,9 @@ use Rattle.records.specs.Records.{recordsOf}
 use Rattle.trees.specs.Trees.{version}
 use Rattle.records.specs.Sound.{Sound}
 use Rattle.tree.specs.Rules.{found-at, found-missing}
-use Rattle.reads.specs.Laws.{read-unsound, read-length, read-row, read-tag, read-done, version-used, looking, read-inside}
+use Rattle.answers.specs.Answers.{handed}
+use Rattle.soundness.specs.Judged.{judged-unsound}
+use Rattle.reads.specs.Laws.{read-length, read-row, read-tag, read-done, version-used, looking, read-inside}
 use Rattle.queries.proofs.read.Statement.{statement}
 use Rattle.queries.proofs.read.Tie as tie
 
@@ -38,7 +41,10 @@ nothing-requires : tie.Need-nothing-requires
 nothing-requires c κs = search needs
 
 returns : tie.Need-returns
-returns c = read-unsound _ _ _ _ (failed (c .before .before .sound .result) (c .before .before .sound .ensures) (c .before .if1 .taken)) (c .nothing .ensures)
+returns c =
+    let u = failed (c .before .before .sound .result) (c .before .before .sound .ensures) (c .before .if1 .taken) in
+    let (empty, front) = c .nothing .ensures in
+    (judged-unsound u (λ i. handed 20 (empty i) (0 ∷ [])), judged-unsound u front)
 
 mul-if2 : tie.Need-mul-if2
 mul-if2 c =
@@ -94,15 +100,15 @@ part-requires : tie.Need-part-requires
 part-requires c κs =
     let k = c .before .before .before .before .before in
     let p = early k in
-    rw (c .lookup .ensures) (read-inside _ (judged (p .before .before)) _ (p .if2 .left) _ _ (version-used _ _ _ (known k)) (low k))
+    rw (c .lookup .ensures .place) (read-inside _ (judged (p .before .before)) _ (p .if2 .left) _ _ (version-used _ _ _ (known k)) (low k))
 
 returns-5 : tie.Need-returns-5
 returns-5 c =
     let l = c .before in
     let k = l .before .before .before .before .before in
     let p = early k in
-    let f = rw (l .lookup .ensures) at (c .part .ensures) in
-    read-done _ _ _ _ (judged (p .before .before)) (p .if2 .left) (low k) _ (known k) (f .0) (f .1)
+    let f = rw (l .lookup .ensures .place) at (c .part .ensures) in
+    read-done _ _ _ _ (judged (p .before .before)) (p .if2 .left) (low k) _ (known k) (f .0) (f .1) (l .lookup .ensures .sharers)
 
 pub read-spec : {M : Type 1} → statement M
 read-spec =

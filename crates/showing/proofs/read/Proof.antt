@@ -1,5 +1,6 @@
 -- `showing::read` meets its contract. Assumes nothing.
 use borrow.Author.Needs.{needs}
+use mathlib.Core.Path.{refl}
 use native.Mathlib.Omega.{arith}
 use Rattle.records.specs.Records.{recordsOf}
 use Rattle.progress.specs.Laws.{answered}
@@ -26,10 +27,17 @@ same-length : tie.Need-same-length
 same-length c = search needs
 
 returns : tie.Need-returns
-returns c = answered (c .on .ensures) (read-refused (recordsOf _ _ _ _) _ (c .before .before .before .before .before .before .before .before .before .pair .ensures) (c .before .before .before .before .before .before .byte .ensures) (c .before .before .before .before .before .if1 .taken) (c .before .before .before .before .before .before .before .read .ensures .0) (c .before .before .before .plain-line .ensures))
+returns c =
+    let p = c .before .before .before in
+    let t = p .before .before in
+    let b = t .before in
+    let q = b .before in
+    answered (c .on .ensures) (read-refused (recordsOf _ _ _ _) _ (q .before .before .before .pair .ensures) (q .read .ensures .0) (b .byte .ensures) (t .if1 .taken) (p .plain-line .ensures))
 
 row-line-requires : tie.Need-row-line-requires
-row-line-requires c κs = omega (arith, read-most (recordsOf _ _ _ _) _ _ _ _ (c .before .before .before .read .ensures .0), c .before .before .before .before .before .before .before .before .before .before .before .pre .fits)
+row-line-requires c κs =
+    let q = c .before .before .before in
+    omega (arith, read-most (recordsOf _ _ _ _) _ _ _ _ (q .read .ensures .0), q .before .before .before .before .before .before .before .before .before .pre .fits)
 
 on-requires-2 : tie.Need-on-requires-2
 on-requires-2 c κs = search needs
@@ -38,7 +46,12 @@ same-length-2 : tie.Need-same-length-2
 same-length-2 c = search needs
 
 returns-2 : tie.Need-returns-2
-returns-2 c = answered (c .on2 .ensures) (read-replied (recordsOf _ _ _ _) _ (c .before .before .before .before .before .before .before .before .before .pair .ensures) (c .before .before .before .before .before .before .byte .ensures) (c .before .before .before .before .before .if1 .left) (c .before .before .before .before .before .before .before .read .ensures .0) (c .before .before .before .row-line .ensures))
+returns-2 c =
+    let p = c .before .before .before in
+    let t = p .before .before in
+    let b = t .before in
+    let q = b .before in
+    answered (c .on2 .ensures) (read-replied (recordsOf _ _ _ _) _ (q .before .before .before .pair .ensures) (q .read .ensures .0) (b .byte .ensures) (t .if1 .left) (p .row-line .ensures) refl)
 
 pub read-spec : {M : Type 1} → statement M
 read-spec =

@@ -1,4 +1,4 @@
--- `reading::lookup` meets its contract: what the node reads is what the node above it reads. Assumes nothing.
+-- `reading::climb` meets its contract: what the node reads is what the node above it reads. Assumes nothing.
 use borrow.Author.Needs.{needs}
 use Prim.Native.Nat.{_-_}
 use mathlib.Core.Path.{_≡_, sym, _∙_}
@@ -8,8 +8,8 @@ use Rattle.reading.specs.Reads.{entry-some}
 use Rattle.tree.specs.Rules.{found-at, found-missing}
 use Rattle.trees.specs.Reading.{entry}
 use Rattle.trees.specs.Trees.{treeOf, tableOf}
-use Rattle.reading.proofs.lookup.Statement.{statement}
-use Rattle.reading.proofs.lookup.Tie as tie
+use Rattle.reading.proofs.climb.Statement.{statement}
+use Rattle.reading.proofs.climb.Tie as tie
 
 abbrev Inv-loop : tie.InvT-loop
 Inv-loop state tag parent rows node row n r m₀ k₀ m k = Rising (treeOf state tag parent) (tableOf rows node row) n (r .0) m k
@@ -92,8 +92,8 @@ returns-3 c =
     let e : c .before .before .loop .k ≡ 128 = omega (arith, c .before .before .loop .inv .most) in
     c .home2 .ensures ∙ sym (rise-over _ _ _ _ _ (rw e at (c .before .before .loop .inv)))
 
-pub lookup-spec : {M : Type 1} → statement M
-lookup-spec =
+pub climb-spec : {M : Type 1} → statement M
+climb-spec =
     tie.close
     (tie.spec
     Inv-loop
