@@ -39,7 +39,7 @@ fn lend(plan: Plan, tally: &mut [usize]) {
 // The histories of every configuration, with a line for each.
 fn configurations(tally: &mut [usize]) {
     let mut k: usize = 0;
-    while k < 11 {
+    while k < 12 {
         let plan = history_plans::planned(k);
         k += 1;
         history_tallying::clear(tally);
@@ -49,7 +49,7 @@ fn configurations(tally: &mut [usize]) {
 }
 
 fn main() {
-    let mut tally = [0usize; 280];
+    let mut tally = [0usize; 285];
     configurations(&mut tally);
     history_summing::show_refusals(&tally);
     history_summing::show_end(&tally);

@@ -55,8 +55,8 @@ fn sized(rows: usize, width: usize, places: usize) -> Size {
     }
 }
 
-// The 11 configurations: as many places as rows, one more, the smallest store, one row, one byte, stores that fill up,
-// one that never does, two with more tags than there can be snapshots, and one whose trees are deep.
+// The 12 configurations: as many places as rows, one more, the smallest store, one row, one byte, stores that fill up, one that
+// never does, two with more tags than there can be snapshots, and two whose trees are deep, the last with rows that all 65 share.
 pub fn planned(k: usize) -> Plan {
     match k {
         0 => made(sized(4, 8, 4), 10, 2, 20, 100),
@@ -69,6 +69,7 @@ pub fn planned(k: usize) -> Plan {
         7 => made(sized(6, 5, 200), 30, 3, 10, 200),
         8 => made(sized(2, 3, 140), 90, 7, 10, 400),
         9 => made(sized(3, 4, 50), 90, 7, 10, 400),
-        _ => made(sized(2, 2, 130), 90, 12, 2, 300),
+        10 => made(sized(2, 2, 130), 90, 12, 2, 300),
+        _ => made(sized(3, 2, 4), 90, 12, 4, 200),
     }
 }

@@ -17,6 +17,7 @@ pub fn step(
     let call = history_drawing::next(plan, copies, dice);
     let tried = history_trying::call(size, call, tree, node, row, places, copies);
     history_tallying::count(tally, tree, call, tried.answer, tried.done);
+    history_tallying::count_rows(tally, tried.tree, copies, size.rows);
     history_telling::differ(size, tally, tried.what);
     tried.tree
 }

@@ -52,7 +52,20 @@ fn show_borders(tally: &[usize]) {
     entry(b", of 65 rows ", tally, history_tallying::MANY_ROWS);
 }
 
-// How many nodes of each shape were deleted, how often equal bytes were written, the borders, and how many differences there are.
+// How many rows were compared after the calls, by how many versions shared them.
+fn show_rows(tally: &[usize]) {
+    entry(
+        b"\nrows compared after the calls: own ",
+        tally,
+        history_tallying::OF_ONE,
+    );
+    entry(b", of two ", tally, history_tallying::OF_TWO);
+    entry(b", of more ", tally, history_tallying::OF_MORE);
+    entry(b", of all 65 ", tally, history_tallying::OF_ALL);
+    entry(b", past a ghost ", tally, history_tallying::PAST_GHOST);
+}
+
+// How many nodes of each shape were deleted, how often equal bytes were written, the borders, the rows, and the differences.
 pub fn show_end(tally: &[usize]) {
     entry(b"deleted: leaves ", tally, history_tallying::LEAVES);
     entry(b", with one child ", tally, history_tallying::SINGLE);
@@ -67,6 +80,7 @@ pub fn show_end(tally: &[usize]) {
     entry(b", in a full store ", tally, history_tallying::EQUAL_FULL);
     entry(b", above children ", tally, history_tallying::EQUAL_ABOVE);
     show_borders(tally);
+    show_rows(tally);
     entry(b"\ndifferences ", tally, history_tallying::TOTAL);
     text(b"\n");
 }

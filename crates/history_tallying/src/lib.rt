@@ -8,6 +8,7 @@ use history_plans::Call;
 use history_plans::DELETE;
 use history_plans::SNAPSHOT;
 use history_plans::WRITE;
+use history_sharers::node_of;
 use trees::Tree;
 
 // Of a configuration.
@@ -67,6 +68,18 @@ pub const ENDED_24: usize = 278;
 
 pub const MANY_ROWS: usize = 279;
 
+// Rows compared after the calls of the whole run: of one version, of two, of more; among the last those of all 65; and those shared
+// past a ghost.
+pub const OF_ONE: usize = 280;
+
+pub const OF_TWO: usize = 281;
+
+pub const OF_MORE: usize = 282;
+
+pub const OF_ALL: usize = 283;
+
+pub const PAST_GHOST: usize = 284;
+
 // A configuration begins.
 pub fn clear(tally: &mut [usize]) {
     put(tally, CALLS, 0);
@@ -89,34 +102,32 @@ fn add_if(tally: &mut [usize], i: usize, yes: bool) {
     }
 }
 
-// Where a node with n children is counted.
-fn shape(n: usize) -> usize {
+// Where n is counted, at one of three indexes from the first on: for 0, for 1, for more.
+fn one_of(first: usize, n: usize) -> usize {
     if n > 1 {
-        return SEVERAL;
+        return sum(first, 2);
     }
-    sum(LEAVES, n)
+    sum(first, n)
 }
 
 fn children(tree: Tree, n: usize) -> usize {
     nodes::children(&tree.state, &tree.tag, &tree.parent, n)
 }
 
-fn is_ghost(tree: Tree, n: usize) -> bool {
-    if n < 128 {
-        return tree.state[n] == 2;
+// Is the parent of a node a ghost?
+fn under_ghost(tree: Tree, n: usize) -> bool {
+    let p = history_sharers::parent_of(tree, n);
+    if p < 128 {
+        return tree.state[p] == 2;
     }
     false
 }
 
 // The shape of the node that a delete takes away.
 fn count_shape(tally: &mut [usize], tree: Tree, tag: u16) {
-    let n = history_sharers::node_of(tree, tag);
-    add(tally, shape(children(tree, n)));
-    add_if(
-        tally,
-        UNDER_GHOST,
-        is_ghost(tree, history_sharers::parent_of(tree, n)),
-    );
+    let n = node_of(tree, tag);
+    add(tally, one_of(LEAVES, children(tree, n)));
+    add_if(tally, UNDER_GHOST, under_ghost(tree, n));
 }
 
 // A write of the bytes that were there.
@@ -127,7 +138,7 @@ fn count_equal(tally: &mut [usize], tree: Tree, call: Call) {
     let way = above(call.way, history_refusals::EQUAL);
     add(tally, sum(EQUAL_OWN, way));
     if way != history_refusals::OWN {
-        let n = history_sharers::node_of(tree, call.tag);
+        let n = node_of(tree, call.tag);
         add_if(tally, EQUAL_ABOVE, children(tree, n) > 0);
     }
 }
@@ -177,5 +188,35 @@ pub fn count(tally: &mut [usize], tree: Tree, call: Call, answer: u8, done: usiz
         count_kind(tally, tree, call);
     } else {
         count_refused(tally, answer, done);
+    }
+}
+
+// A shared row of a version: one without children that stands under a ghost shares it past the ghost.
+fn count_shared(tally: &mut [usize], tree: Tree, tag: u16) {
+    let v = node_of(tree, tag);
+    if under_ghost(tree, v) {
+        add_if(tally, PAST_GHOST, children(tree, v) == 0);
+    }
+}
+
+// The k-th row of all slots, where its version is alive.
+fn count_row(tally: &mut [usize], tree: Tree, copies: &[usize], rows: usize, k: usize) {
+    if !history_slots::in_use(copies, rows, k) {
+        return;
+    }
+    let n = history_slots::sharers(copies, k / 8, k % 8);
+    add(tally, one_of(OF_ONE, above(n, 1)));
+    add_if(tally, OF_ALL, n == history_slots::SLOTS);
+    if n > 1 {
+        count_shared(tally, tree, history_slots::tag_of(copies, k / 8));
+    }
+}
+
+// Every row of every living version, on the tree after a call.
+pub fn count_rows(tally: &mut [usize], tree: Tree, copies: &[usize], rows: usize) {
+    let mut k: usize = 0;
+    while k < 520 {
+        count_row(tally, tree, copies, rows, k);
+        k += 1;
     }
 }

@@ -7,10 +7,10 @@ use Rattle.histories.proofs.configurations.Statement.{statement}
 use Rattle.histories.proofs.configurations.Tie as tie
 
 abbrev Inv-loop : tie.InvT-loop
-Inv-loop tally₀ k₀ tally k = (k ≤ 11) × (length tally ≡ length tally₀)
+Inv-loop tally₀ k₀ tally k = (k ≤ 12) × (length tally ≡ length tally₀)
 
 abbrev μ-loop : tie.MeasureT-loop
-μ-loop tally₀ k₀ tally k = 11 - k
+μ-loop tally₀ k₀ tally k = 12 - k
 
 loop-holds : tie.Need-loop-holds Inv-loop μ-loop
 loop-holds c = search needs
