@@ -11,7 +11,7 @@ use borrow.Author.Tests.{ne-eqb}
 use Rattle.answers.specs.Answers.{Answer, handed, row, counts}
 use Rattle.digits.specs.Digits.{decimal, hex}
 use Rattle.digits.specs.Laws.{decimal-most, hex-size}
-use Rattle.text.specs.Text.{head, line, pairText, rowText, shown, answerLine, spaced, space, dash, newline}
+use Rattle.text.specs.Text.{head, line, apart, pairText, rowText, shown, answerLine, spaced, space, dash, newline}
 use Rattle.laying.specs.Laid.{Lays}
 use Rattle.laying.specs.Laws.{lays-then}
 
@@ -72,26 +72,22 @@ pub line-laid : (k n : ℕ) (shown : List ℕ) {b : List ℕ} {p : ℕ} {a₁ a�
 unfolding line
 line-laid k n shown x y z = lays-then x (lays-then y z)
 
+pub apart-laid : (x y : List ℕ) {b : List ℕ} {p : ℕ} {a₁ a₂ a : List ℕ} {to₁ to₂ to : ℕ} → Lays b p x a₁ to₁ → Lays a₁ to₁ space a₂ to₂ → Lays a₂ to₂ y a to → Lays b p (apart x y) a to
+apart-laid x y f g h = lays-then f (lays-then g h)
+
+apart-size : (x y : List ℕ) → length (apart x y) ≡ length x + (1 + length y)
+apart-size x y = omega (arith, length-append x (space ++ y), length-append space y)
+
 pub pair-most : (u s : ℕ) → length (pairText u s) ≤ 9
 unfolding pairText
-pair-most u s = omega (arith, decimal-most u, decimal-most s, length-append (decimal u) (space ++ decimal s), length-append space (decimal s))
-
-pub pair-laid : (u s : ℕ) {b : List ℕ} {p : ℕ} {a₁ a₂ a : List ℕ} {to₁ to₂ to : ℕ}
-    → Lays b p (decimal u) a₁ to₁ → Lays a₁ to₁ space a₂ to₂ → Lays a₂ to₂ (decimal s) a to → Lays b p (pairText u s) a to
-unfolding pairText
-pair-laid u s x y z = lays-then x (lays-then y z)
-
-pub pair-room : (u s : ℕ) {b : List ℕ} {p : ℕ} {a : List ℕ} {to : ℕ} → Lays b p (pairText u s) a to → (to ≤ p + 9) × (length a ≡ length b)
-pair-room u s l = (omega (arith, l .ends, pair-most u s), l .size)
+pair-most u s = omega (arith, decimal-most u, decimal-most s, apart-size (decimal u) (decimal s))
 
 pub row-most : (bs : List ℕ) (n : ℕ) → length (rowText bs n) ≤ 5 + 2 * length bs
 unfolding rowText
-row-most bs n = omega (arith, hex-size bs, decimal-most n, length-append (hex bs) (space ++ decimal n), length-append space (decimal n))
+row-most bs n = omega (arith, hex-size bs, decimal-most n, apart-size (hex bs) (decimal n))
 
-pub row-laid : (bs : List ℕ) (n : ℕ) {b : List ℕ} {p : ℕ} {a₁ a₂ a : List ℕ} {to₁ to₂ to : ℕ}
-    → Lays b p (hex bs) a₁ to₁ → Lays a₁ to₁ space a₂ to₂ → Lays a₂ to₂ (decimal n) a to → Lays b p (rowText bs n) a to
-unfolding rowText
-row-laid bs n x y z = lays-then x (lays-then y z)
+pub pair-room : (u s : ℕ) {b : List ℕ} {p : ℕ} {a : List ℕ} {to : ℕ} → Lays b p (pairText u s) a to → (to ≤ p + 9) × (length a ≡ length b)
+pair-room u s l = (omega (arith, l .ends, pair-most u s), l .size)
 
 pub row-room : (bs : List ℕ) (n : ℕ) {b : List ℕ} {p : ℕ} {a : List ℕ} {to : ℕ} → Lays b p (rowText bs n) a to → (to ≤ p + (5 + 2 * length bs)) × (length a ≡ length b)
 row-room bs n l = (omega (arith, l .ends, row-most bs n), l .size)

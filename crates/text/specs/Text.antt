@@ -23,18 +23,21 @@ head k n = decimal k ++ (space ++ (decimal n ++ space))
 unfoldable pub line : ℕ → ℕ → List ℕ → List ℕ
 line k n shown = head k n ++ (shown ++ newline)
 
+-- two pieces with a space between: two numbers; a row's bytes and how many share it
+abbrev pub apart : List ℕ → List ℕ → List ℕ
+apart x y = x ++ (space ++ y)
+
 unfoldable pub pairText : ℕ → ℕ → List ℕ
-pairText used snapshots = decimal used ++ (space ++ decimal snapshots)
+pairText used snapshots = apart (decimal used) (decimal snapshots)
 
--- a row's bytes and how many share it
 unfoldable pub rowText : List ℕ → ℕ → List ℕ
-rowText bytes sharers = hex bytes ++ (space ++ decimal sharers)
+rowText bytes sharers = apart (hex bytes) (decimal sharers)
 
--- pieces with a space between each two; a dash for none
+-- any number of pieces; a dash for none
 unfoldable pub spaced : List (List ℕ) → List ℕ
 spaced [] = dash
 spaced (p ∷ []) = p
-spaced (p ∷ q ∷ rest) = p ++ (space ++ spaced (q ∷ rest))
+spaced (p ∷ q ∷ rest) = apart p (spaced (q ∷ rest))
 
 -- a row in hexadecimal digits, if there is one
 abbrev pub rowPieces : List ℕ → List (List ℕ)

@@ -78,7 +78,8 @@ on cs = calling (map one cs)
 abbrev eight : ℕ → List ℕ
 eight b = replicate 8 b
 
--- a number alone; a row that was read, and how many share it; places in use and snapshots alive; a number, and how many rows were done
+-- a number alone; a row that was read, and how many share it; places in use and snapshots alive; a number, and the one beside it: the rows
+-- that a border did, or 0 of a read that is refused
 abbrev says : ℕ → Answer
 says n = handed n [] []
 

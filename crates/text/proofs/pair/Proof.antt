@@ -3,7 +3,8 @@ use borrow.Author.Needs.{needs}
 use native.Mathlib.Omega.{arith}
 use Rattle.laying.specs.Laws.{one-room}
 use Rattle.digits.specs.Laws.{decimal-room}
-use Rattle.text.specs.Laws.{pair-laid}
+use Rattle.text.specs.Text.{pairText}
+use Rattle.text.specs.Laws.{apart-laid}
 use Rattle.text.proofs.pair.Statement.{statement}
 use Rattle.text.proofs.pair.Tie as tie
 
@@ -20,7 +21,8 @@ same-length : tie.Need-same-length
 same-length c = search needs
 
 returns : tie.Need-returns
-returns c = pair-laid _ _ (c .before .before .before .before .before .before .before .before .before .before .decimal .ensures) (c .before .before .before .before .before .before .put .ensures) (c .before .before .decimal2 .ensures)
+unfolding pairText
+returns c = apart-laid _ _ (c .before .before .before .before .before .before .before .before .before .before .decimal .ensures) (c .before .before .before .before .before .before .put .ensures) (c .before .before .decimal2 .ensures)
 
 pub pair-spec : {M : Type 1} → statement M
 pair-spec =

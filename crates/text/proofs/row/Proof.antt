@@ -3,7 +3,8 @@ use borrow.Author.Needs.{needs}
 use native.Mathlib.Omega.{arith}
 use Rattle.laying.specs.Laws.{one-room}
 use Rattle.digits.specs.Laws.{hex-room}
-use Rattle.text.specs.Laws.{row-laid}
+use Rattle.text.specs.Text.{rowText}
+use Rattle.text.specs.Laws.{apart-laid}
 use Rattle.text.proofs.row.Statement.{statement}
 use Rattle.text.proofs.row.Tie as tie
 
@@ -28,10 +29,11 @@ same-length : tie.Need-same-length
 same-length c = search needs
 
 returns : tie.Need-returns
+unfolding rowText
 returns c =
     let d = c .before .before in
     let p = d .before .before .before .before in
-    row-laid _ _ (p .before .before .before .before .hex .ensures) (p .put .ensures) (d .decimal .ensures)
+    apart-laid _ _ (p .before .before .before .before .hex .ensures) (p .put .ensures) (d .decimal .ensures)
 
 pub row-spec : {M : Type 1} → statement M
 row-spec = tie.close (tie.spec hex-requires put-requires decimal-requires same-length returns)
