@@ -18,8 +18,8 @@ use Rattle.trees.specs.declared.Tree.{Tree}
 use Rattle.trees.specs.Trees.{Table, Alive, taken, used}
 use Rattle.trees.specs.Reading.{place}
 use Rattle.records.specs.Records.{isFound}
-use Rattle.reading.specs.Lookup.{Looking}
-use Rattle.sharing.specs.Sharing.{readsFrom, sharersAt, SharedAt, isSharer, sharedAt, freeEntry}
+use Rattle.noting.specs.Notes.{Noted, Climbed}
+use Rattle.sharing.specs.Sharing.{readsFrom, sharersAt, ReadersOf, SharedAt, isSharer, sharedAt, freeEntry}
 
 -- Free entries
 
@@ -94,33 +94,32 @@ module _ (t : Tree) (e : Table) (r p : ℕ) where
   unfolding readsFrom
   from-reads n l h = let (a, b) = both (eqb (at (t .state) n) 1) (eqb (place t e n r) p) h in ((l, eqb-true _ 1 a), eqb-true _ p b)
 
-  -- those below n are counted
-  pub record Counted (n c : ℕ) : Type 0 where
-    pub most : n ≤ 128
-    pub sums : c ≡ count (readsFrom t e r p) n
+-- those below n are counted, in every table whose notes these are
+pub record Counted (t : Tree) (notes : List ℕ) (r p n c : ℕ) : Type 0 where
+  pub most : n ≤ 128
+  pub few : c ≤ n
+  pub sums : (e : Table) → Noted e r notes → c ≡ count (readsFrom t e r p) n
 
-  pub counted-start : Counted 0 0
-  counted-start = record { most = omega arith; sums = sym (count-none (readsFrom t e r p)) }
+module _ (t : Tree) (notes : List ℕ) (r p : ℕ) where
+  pub counted-start : Counted t notes r p 0 0
+  counted-start = record { most = omega arith; few = omega arith; sums = λ e d. sym (count-none (readsFrom t e r p)) }
 
-  pub counted-most : {n c : ℕ} → Counted n c → c ≤ 128
-  counted-most {n} h = omega (arith, h .most, h .sums, count-most (readsFrom t e r p) n)
+  pub counted-yes : {n c : ℕ} → n < 128 → Counted t notes r p n c → at (t .state) n ≡ 1 → Climbed t notes n r p → Counted t notes r p (n + 1) (c + 1)
+  counted-yes {n} l h a x = record {
+    most = omega arith;
+    few = omega (arith, h .few);
+    sums = λ e d. omega (arith, h .sums e d, count-yes (readsFrom t e r p) n (reads-from t e r p n (l, a) (sym (x e d))));
+  }
 
-  pub counted-yes : {n c : ℕ} → n < 128 → Counted n c → at (t .state) n ≡ 1 → place t e n r ≡ p → Counted (n + 1) (c + 1)
-  counted-yes {n} l h a x = record { most = omega arith; sums = omega (arith, h .sums, count-yes (readsFrom t e r p) n (reads-from n (l, a) x)) }
-
-  pub counted-no : {n c : ℕ} → n < 128 → Counted n c → (at (t .state) n ≡ 1 → place t e n r ≡ p → ⊥) → Counted (n + 1) c
-  counted-no {n} l h f = record { most = omega arith; sums = h .sums ∙ sym (count-no (readsFrom t e r p) n (no (readsFrom t e r p n) refl)) }
+  pub counted-no : {n c : ℕ} → n < 128 → Counted t notes r p n c → (at (t .state) n ≡ 1 → (e : Table) → Noted e r notes → place t e n r ≢ p) → Counted t notes r p (n + 1) c
+  counted-no {n} {c} l h f = record { most = omega arith; few = omega (arith, h .few); sums = λ e d. h .sums e d ∙ sym (count-no (readsFrom t e r p) n (no e d (readsFrom t e r p n) refl)) }
     where
-      no : (b : Bool) → readsFrom t e r p n ≡ b → readsFrom t e r p n ≡ false
-      no true x = let (a, q) = from-reads n l x in absurd (f (a .1) q)
-      no false x = x
+      no : (e : Table) → Noted e r notes → (b : Bool) → readsFrom t e r p n ≡ b → readsFrom t e r p n ≡ false
+      no e d true x = let (a, q) = from-reads t e r p n l x in absurd (f (a .1) e d q)
+      no e d false x = x
 
-  pub counted-all : {n c : ℕ} → 128 ≤ n → Counted n c → c ≡ count (readsFrom t e r p) 128
-  counted-all {n} l h = let e : n ≡ 128 = omega (arith, h .most) in rw e at (h .sums)
-
--- the lookup may go up from any living node
-pub looking-alive : (t : Tree) (e : Table) (v n : ℕ) → Looking t e v → Alive t n → Looking t e n
-looking-alive t e v n s a = record { climbs = record { parents = s .climbs .parents; used = (a .0, omega (arith, a .1)) }; halves = s .halves; few = s .few }
+  pub counted-all : {n c : ℕ} → 128 ≤ n → Counted t notes r p n c → ReadersOf t notes r p c
+  counted-all {n} l h e d = let x : n ≡ 128 = omega (arith, h .most) in h .sums e d ∙ ap (count (readsFrom t e r p)) x
 
 -- Shared rows
 

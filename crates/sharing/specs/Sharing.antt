@@ -13,6 +13,7 @@ use Rattle.trees.specs.declared.Tree.{Tree}
 use Rattle.trees.specs.Trees.{Table, Alive}
 use Rattle.trees.specs.Reading.{place}
 use Rattle.records.specs.Records.{isFound}
+use Rattle.noting.specs.Notes.{Noted}
 use Rattle.sharing.specs.declared.Looked.{Looked}
 
 -- a living version, at node n, reads row r from place p
@@ -22,6 +23,10 @@ readsFrom t e r p n = eqb (at (t .state) n) 1 && eqb (place t e n r) p
 -- how many living versions read row r from the place from which node v reads it
 unfoldable pub sharersAt : Tree → Table → ℕ → ℕ → ℕ
 sharersAt t e v r = count (readsFrom t e r (place t e v r)) 128
+
+-- c living versions read row r from place p, in every table whose notes of the row these are
+abbrev pub ReadersOf : Tree → List ℕ → ℕ → ℕ → ℕ → Type 0
+ReadersOf t notes r p c = (e : Table) → Noted e r notes → c ≡ count (readsFrom t e r p) 128
 
 -- what the lookup finds of row r at node v: the place, and how many read it
 pub record Finds (t : Tree) (e : Table) (v r : ℕ) (x : Looked) : Type 0 where

@@ -1,9 +1,9 @@
 // Where a row is read and by how many, and is there a free place?
 ghost use mathlib.Core.Path.{_≡_};
 ghost use Rattle.trees.specs.Trees.{treeOf, tableOf};
-ghost use Rattle.tree.specs.Rules.{foundOf};
+ghost use Rattle.tree.specs.Rules.{foundOf, Parents};
 ghost use Rattle.reading.specs.Lookup.{Looking};
-ghost use Rattle.sharing.specs.Sharing.{Finds, freeEntry};
+ghost use Rattle.sharing.specs.Sharing.{ReadersOf, Finds, freeEntry};
 use measures::Place;
 use measures::Row;
 use tree::Found;
@@ -12,6 +12,32 @@ use tree::Found;
 pub struct Looked {
     pub place: Place,
     pub sharers: usize,
+}
+
+// How many living versions read row r from the place p, by the notes of the row.
+fn readers<'a>(
+    state: &'a [u8; 128],
+    tag: &'a [u16; 128],
+    parent: &'a [u8; 128],
+    notes: &'a [u16; 128],
+    p: Place,
+    r: Row,
+) -> usize
+    requires { ⌜ Parents (treeOf (now state) (now tag) (now parent)) ⌝ }
+    ensures { λ c. ⌜ ReadersOf (treeOf (now (state .entry)) (now (tag .entry)) (now (parent .entry))) (now (notes .entry)) (r .0) (p .0) c ⌝ }
+{
+    let mut sum: usize = 0;
+    let mut n: usize = 0;
+    while n < 128 {
+        if state[n] == 1 {
+            let q = noting::climb(state, tag, parent, notes, n, r);
+            if measures::same_place(p, q) {
+                sum += 1;
+            }
+        }
+        n += 1;
+    }
+    sum
 }
 
 // Looks a row up for the version at node v.
@@ -28,18 +54,9 @@ pub fn lookup<'a>(
     requires { ⌜ Looking (treeOf (now state) (now tag) (now parent)) (tableOf rows (now node) (now row)) v ⌝ }
     ensures { λ x. ⌜ Finds (treeOf (now (state .entry)) (now (tag .entry)) (now (parent .entry))) (tableOf rows (now (node .entry)) (now (row .entry))) v (r .0) x ⌝ }
 {
-    let place = reading::climb(state, tag, parent, rows, node, row, v, r);
-    let mut sharers: usize = 0;
-    let mut n: usize = 0;
-    while n < 128 {
-        if state[n] == 1 {
-            let other = reading::climb(state, tag, parent, rows, node, row, n, r);
-            if measures::same_place(place, other) {
-                sharers += 1;
-            }
-        }
-        n += 1;
-    }
+    let notes = noting::notes(rows, node, row, r);
+    let place = noting::climb(state, tag, parent, &notes, v, r);
+    let sharers = readers(state, tag, parent, &notes, place, r);
     Looked { place, sharers }
 }
 

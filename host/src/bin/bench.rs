@@ -8,6 +8,7 @@ use rowstore_host::store::{Store, MAX_BORDER};
 use std::cmp::Reverse;
 use std::collections::HashSet;
 use std::hint::black_box;
+use std::ops::Range;
 use std::time::{Duration, Instant};
 
 /// A time is the median of this many repetitions, each of at least this length.
@@ -50,6 +51,9 @@ const LARGEST: Shape = Shape {
     entries: 3072,
 };
 
+/// The table of the largest store shared out among the snapshots of a chain.
+const CHAIN_ROWS: usize = LARGEST.entries / LARGEST.snapshots;
+
 /// The numbers of entries in the table of growth.
 const GROWTH: [usize; 5] = [240, 480, 960, 1920, 3840];
 
@@ -65,12 +69,7 @@ impl Lent {
     /// Grows a store of the shape: snapshots come and go, then rows are written.
     fn grown(shape: Shape) -> Lent {
         let rows = shape.measures.rows;
-        let mut lent = Lent {
-            shape,
-            records: vec![0; shape.measures.records_len()],
-            places: vec![0; shape.measures.places_len()],
-        };
-        assert_eq!(open::<Plain>(&mut lent), 0);
+        let mut lent = Lent::opened(shape);
         let mut dice = Dice::new(1);
         lent.take_snapshots(&mut dice);
         // Every other one goes again, so that ghosts stand between the rest.
@@ -84,6 +83,36 @@ impl Lent {
             let missing = used - Plain::count(&lent.records).1;
             lent.write_drawn(&mut dice, missing);
         }
+        lent
+    }
+
+    /// A chain: each snapshot is taken of the one before, and every one has the same rows of its
+    /// own. All other rows are the origin's, at the end of the longest way up.
+    fn chain() -> Lent {
+        let shape = Shape {
+            name: "chain",
+            ..LARGEST
+        };
+        let mut lent = Lent::opened(shape);
+        let mut dice = Dice::new(1);
+        for tag in 1..=shape.snapshots as u16 {
+            assert_eq!(Plain::snapshot(&mut lent.records, tag - 1, tag), 0);
+            for row in 0..CHAIN_ROWS {
+                let bytes = dice.bytes(shape.measures.width);
+                let answer = Plain::write(&mut lent.records, &mut lent.places, tag, row, &bytes);
+                assert_eq!(answer, 0);
+            }
+        }
+        lent
+    }
+
+    fn opened(shape: Shape) -> Lent {
+        let mut lent = Lent {
+            shape,
+            records: vec![0; shape.measures.records_len()],
+            places: vec![0; shape.measures.places_len()],
+        };
+        assert_eq!(open::<Plain>(&mut lent), 0);
         lent
     }
 
@@ -306,9 +335,8 @@ fn timed_snapshot<S: Store>(stock: &Stock) -> Repetition {
     })
 }
 
-fn timed_read<S: Store>(stock: &Stock) -> Repetition {
-    let lent = stock.full.clone();
-    let targets = [lent.targets(true), lent.targets(false)].concat();
+fn timed_read<S: Store>(lent: &Lent, targets: Vec<(u16, usize)>) -> Repetition {
+    let lent = lent.clone();
     let mut out = vec![0; lent.shape.measures.width];
     timed(move |number| {
         let (tag, row) = targets[number % targets.len()];
@@ -404,8 +432,8 @@ fn timed_delete<S: Store>(stock: &Stock) -> Repetition {
     })
 }
 
-fn timed_count<S: Store>(stock: &Stock) -> Repetition {
-    let records = stock.full.records.clone();
+fn timed_count<S: Store>(lent: &Lent) -> Repetition {
+    let records = lent.records.clone();
     timed(move |_| assert_eq!(S::count(black_box(&records)).0, 0))
 }
 
@@ -422,15 +450,29 @@ const CALLS: [&str; 8] = [
 
 /// The calls in the order of their names.
 fn timed_calls<S: Store>(stock: &Stock) -> Vec<Repetition> {
+    let full = &stock.full;
     vec![
         timed_open::<S>(stock),
         timed_snapshot::<S>(stock),
-        timed_read::<S>(stock),
-        timed_write::<S>(&stock.full, false),
+        timed_read::<S>(full, [full.targets(true), full.targets(false)].concat()),
+        timed_write::<S>(full, false),
         timed_write::<S>(&stock.roomy, true),
-        timed_write_equal::<S>(&stock.full),
+        timed_write_equal::<S>(full),
         timed_delete::<S>(stock),
-        timed_count::<S>(stock),
+        timed_count::<S>(full),
+    ]
+}
+
+const CHAIN_CALLS: [&str; 3] = ["read own row", "read origin's", "count"];
+
+/// The calls of a chain in the order of their names: reads at the deepest version, of its own rows
+/// and of those that are the origin's.
+fn timed_chain<S: Store>(lent: &Lent) -> Vec<Repetition> {
+    let deepest = |rows: Range<usize>| rows.map(|row| (lent.shape.snapshots as u16, row)).collect();
+    vec![
+        timed_read::<S>(lent, deepest(0..CHAIN_ROWS)),
+        timed_read::<S>(lent, deepest(CHAIN_ROWS..lent.rows())),
+        timed_count::<S>(lent),
     ]
 }
 
@@ -454,6 +496,7 @@ struct Timed {
     name: &'static str,
     calls: fn(&Stock) -> Vec<Repetition>,
     borders: fn(&Stock) -> Vec<Repetition>,
+    chain: fn(&Lent) -> Vec<Repetition>,
 }
 
 impl Timed {
@@ -462,6 +505,7 @@ impl Timed {
             name: S::NAME,
             calls: timed_calls::<S>,
             borders: timed_borders::<S>,
+            chain: timed_chain::<S>,
         }
     }
 }
@@ -489,32 +533,44 @@ fn medians(mut cells: Vec<Repetition>) -> Vec<f64> {
     times.into_iter().map(median).collect()
 }
 
-/// The time of each call on one store, beside one pass over its records.
-fn print_shape(shape: Shape) {
-    let stock = Stock::of(shape);
-    let records = stock.full.parsed();
-    let (name, m) = (shape.name, shape.measures);
-    let (rows, width, places) = (m.rows, m.width, m.places);
-    let (snapshots, ghosts) = (shape.snapshots, records.ghosts());
-    let (used, entries) = (shape.entries, places - rows);
+/// The measures of a store, then the time of some calls on it, beside one pass over its records.
+fn print_calls(lent: &Lent, calls: &[&str], timed: impl Fn(Timed) -> Vec<Repetition>) {
+    let Shape {
+        name,
+        measures,
+        snapshots,
+        entries: used,
+    } = lent.shape;
+    let (rows, width, places) = (measures.rows, measures.width, measures.places);
+    let (ghosts, entries) = (lent.parsed().ghosts(), places - rows);
     println!("\n{name}: {rows} rows of {width} bytes, {places} places;");
     println!("{snapshots} snapshots, {ghosts} ghosts, {used} of {entries} entries in use");
     print!("{:<16}", "ns per call");
-    let mut cells = vec![timed_pass(&stock.full)];
+    let mut cells = vec![timed_pass(lent)];
     for store in stores() {
         print!("{:>12}", store.name);
-        cells.extend((store.calls)(&stock));
+        cells.extend(timed(store));
     }
     println!("{:>12}", "one pass");
     let times = medians(cells);
-    for (row, call) in CALLS.iter().enumerate() {
+    for (row, call) in calls.iter().enumerate() {
         print!("{call:<16}");
-        for calls in times[1..].chunks(CALLS.len()) {
+        for calls in times[1..].chunks(calls.len()) {
             print!("{:>12.0}", calls[row]);
         }
         println!("{:>12.0}", times[0]);
     }
+}
+
+fn print_shape(shape: Shape) {
+    let stock = Stock::of(shape);
+    print_calls(&stock.full, &CALLS, |store| (store.calls)(&stock));
     print_borders(&stock);
+}
+
+fn print_chain() {
+    let lent = Lent::chain();
+    print_calls(&lent, &CHAIN_CALLS, |store| (store.chain)(&lent));
 }
 
 /// The time of borders of 64 rows, beside 64 writes of the same rows; at least so many are different.
@@ -577,5 +633,6 @@ fn print_growth() {
 fn main() {
     println!("time per call: median of {REPETITIONS} repetitions of {REPETITION:?} or more");
     [SMALL, MIDDLE, LARGEST].into_iter().for_each(print_shape);
+    print_chain();
     print_growth();
 }
