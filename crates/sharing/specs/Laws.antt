@@ -18,7 +18,7 @@ use Rattle.trees.specs.declared.Tree.{Tree}
 use Rattle.trees.specs.Trees.{Table, Alive, taken, used}
 use Rattle.trees.specs.Reading.{place}
 use Rattle.records.specs.Records.{isFound}
-use Rattle.noting.specs.Notes.{Noted, Climbed}
+use Rattle.notes.specs.Notes.{Noted, Climbed}
 use Rattle.sharing.specs.Sharing.{readsFrom, sharersAt, ReadersOf, SharedAt, isSharer, sharedAt, freeEntry}
 
 -- Free entries

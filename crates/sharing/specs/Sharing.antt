@@ -13,7 +13,7 @@ use Rattle.trees.specs.declared.Tree.{Tree}
 use Rattle.trees.specs.Trees.{Table, Alive}
 use Rattle.trees.specs.Reading.{place}
 use Rattle.records.specs.Records.{isFound}
-use Rattle.noting.specs.Notes.{Noted}
+use Rattle.notes.specs.Notes.{Noted}
 use Rattle.sharing.specs.declared.Looked.{Looked}
 
 -- a living version, at node n, reads row r from place p

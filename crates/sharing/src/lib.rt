@@ -30,7 +30,7 @@ fn readers<'a>(
     let mut n: usize = 0;
     while n < 128 {
         if state[n] == 1 {
-            let q = noting::climb(state, tag, parent, notes, n, r);
+            let q = climbing::climb(state, tag, parent, notes, n, r);
             if measures::same_place(p, q) {
                 sum += 1;
             }
@@ -55,7 +55,7 @@ pub fn lookup<'a>(
     ensures { λ x. ⌜ Finds (treeOf (now (state .entry)) (now (tag .entry)) (now (parent .entry))) (tableOf rows (now (node .entry)) (now (row .entry))) v (r .0) x ⌝ }
 {
     let notes = noting::notes(rows, node, row, r);
-    let place = noting::climb(state, tag, parent, &notes, v, r);
+    let place = climbing::climb(state, tag, parent, &notes, v, r);
     let sharers = readers(state, tag, parent, &notes, place, r);
     Looked { place, sharers }
 }

@@ -2,7 +2,7 @@
 use borrow.Author.Needs.{needs}
 use mathlib.Core.Path.{sym}
 use native.Mathlib.Omega.{arith}
-use Rattle.noting.specs.Laws.{joined-out, joined-kept, joined-new}
+use Rattle.notes.specs.Making.{joined-out, joined-kept, joined-new}
 use Rattle.noting.proofs.join.Statement.{statement}
 use Rattle.noting.proofs.join.Tie as tie
 

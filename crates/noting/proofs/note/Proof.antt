@@ -7,8 +7,8 @@ use native.Mathlib.Omega.{arith}
 use lib.ListN.{length}
 use Rattle.trees.specs.Trees.{tableOf}
 use Rattle.basics.specs.Decide.{holds, fails}
-use Rattle.noting.specs.Notes.{Noting}
-use Rattle.noting.specs.Laws.{noting-past, noting-next}
+use Rattle.notes.specs.Notes.{Noting}
+use Rattle.notes.specs.Making.{noting-past, noting-next}
 use Rattle.noting.proofs.note.Statement.{statement}
 use Rattle.noting.proofs.note.Tie as tie
 

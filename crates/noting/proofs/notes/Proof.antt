@@ -5,8 +5,8 @@ use native.Mathlib.Omega.{arith}
 use lib.ListN.{length}
 use Rattle.trees.specs.Trees.{tableOf}
 use Rattle.basics.specs.Decide.{fails}
-use Rattle.noting.specs.Notes.{Noting}
-use Rattle.noting.specs.Laws.{noting-start, noting-over, noting-all}
+use Rattle.notes.specs.Notes.{Noting}
+use Rattle.notes.specs.Making.{noting-start, noting-over, noting-all}
 use Rattle.noting.proofs.notes.Statement.{statement}
 use Rattle.noting.proofs.notes.Tie as tie
 

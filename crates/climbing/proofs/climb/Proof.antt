@@ -1,11 +1,11 @@
--- `noting::climb` meets its contract: what the node reads is what the node above it reads. Assumes nothing.
+-- `climbing::climb` meets its contract: what the node reads is what the node above it reads. Assumes nothing.
 use borrow.Author.Needs.{needs}
 use Prim.Native.Nat.{_-_, _<_}
 use native.Mathlib.Omega.{arith}
 use Rattle.trees.specs.Trees.{treeOf}
-use Rattle.noting.specs.Laws.{Rising, rise-start, rise-root, rise-own, rise-up, rise-over}
-use Rattle.noting.proofs.climb.Statement.{statement}
-use Rattle.noting.proofs.climb.Tie as tie
+use Rattle.notes.specs.Rising.{Rising, rise-start, rise-root, rise-own, rise-up, rise-over}
+use Rattle.climbing.proofs.climb.Statement.{statement}
+use Rattle.climbing.proofs.climb.Tie as tie
 
 abbrev Inv-loop : tie.InvT-loop
 Inv-loop state tag parent notes n r m₀ k₀ m k = Rising (treeOf state tag parent) notes n (r .0) m k
