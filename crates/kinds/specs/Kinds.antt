@@ -1,20 +1,37 @@
--- Rule 2 one node at a time, as the check tests it. Assumes nothing.
+-- Rule 2 in three parts, each of them a rule for every node, as the check tests them. Assumes nothing.
 use mathlib.Core.Path.{_≡_}
-use Prim.Native.Nat.{ℕ, _≤_, _<_}
+use mathlib.Core.Logic.{_≢_, by-cases}
+use mathlib.Core.List.{List}
+use Prim.Native.Nat.{ℕ, _≤_}
+use native.Mathlib.Decide.{ℕ-discrete}
+use native.Mathlib.Omega.{arith}
 use Rattle.basics.specs.Decide.{at}
+use Rattle.faults.specs.Faults.{Below}
 use Rattle.trees.specs.declared.Tree.{Tree}
 use Rattle.trees.specs.Trees.{up}
 use Rattle.trees.specs.Rules.{States}
 
--- rule 2 at node n
-pub record NodeStates (t : Tree) (n : ℕ) : Type 0 where
-  pub kind : at (t .state) n ≤ 2
-  pub empty : at (t .state) n ≡ 0 → (at (t .tag) n ≡ 0) × (up t n ≡ 0)
-  pub ghost : at (t .state) n ≡ 2 → at (t .tag) n ≡ 0
+-- node n has one of the three states; it has a parent only if it is in use, and a tag only if it is alive
+abbrev pub Kind : List ℕ → ℕ → Type 0
+Kind state n = at state n ≤ 2
+
+abbrev pub Hung : List ℕ → List ℕ → ℕ → Type 0
+Hung state parent n = at state n ≡ 0 → at parent n ≡ 0
+
+abbrev pub Named : List ℕ → List ℕ → ℕ → Type 0
+Named state tag n = at state n ≢ 1 → at tag n ≡ 0
 
 module _ (t : Tree) where
-  pub states-node : States t → (n : ℕ) → n < 128 → NodeStates t n
-  states-node s n l = record { kind = s .kinds n l; empty = s .empty n l; ghost = λ e. s .ghost n (l, e) }
+  pub states-of : (at (t .state) 0 ≡ 1) × (at (t .tag) 0 ≡ 0) × (up t 0 ≡ 0) → Below (Kind (t .state)) 128 → Below (Hung (t .state) (t .parent)) 128 → Below (Named (t .state) (t .tag)) 128 → States t
+  states-of r k h g = record {
+    kinds = k;
+    root = r;
+    empty = λ n l e. (g n l (λ x. omega arith), h n l e);
+    ghost = λ n x. g n (x .0) (λ y. omega (arith, x .1));
+  }
 
-  pub states-all : (at (t .state) 0 ≡ 1) × (at (t .tag) 0 ≡ 0) × (up t 0 ≡ 0) → ((n : ℕ) → n < 128 → NodeStates t n) → States t
-  states-all r h = record { kinds = λ n l. h n l .kind; root = r; empty = λ n l. h n l .empty; ghost = λ n g. h n (g .0) .ghost (g .1) }
+  pub states-hung : States t → Below (Hung (t .state) (t .parent)) 128
+  states-hung s n l e = s .empty n l e .1
+
+  pub states-named : States t → Below (Named (t .state) (t .tag)) 128
+  states-named s n l e = by-cases (ℕ-discrete (at (t .state) n) 2) (λ x. s .ghost n (l, x)) (λ x. s .empty n l (omega (arith, s .kinds n l)) .0)

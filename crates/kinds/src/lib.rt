@@ -1,36 +1,61 @@
-// Rule 2 of SPEC 4: what a node of each state has.
-ghost use Prim.Native.Nat.{_<_};
+// Rule 2 of SPEC 4: what a node of each state has. Each part counts what is wrong in a loop that is never left early: so the compiler takes many nodes at once.
 ghost use Rattle.basics.specs.Decide.{Decides};
+ghost use Rattle.faults.specs.Faults.{Below};
 ghost use Rattle.trees.specs.Trees.{treeOf};
 ghost use Rattle.trees.specs.Rules.{States};
-ghost use Rattle.kinds.specs.Kinds.{NodeStates};
+ghost use Rattle.kinds.specs.Kinds.{Kind, Hung, Named};
 
-// Rule 2 at one node.
-fn node_states<'a>(
-    state: &'a [u8; 128],
-    tag: &'a [u16; 128],
-    parent: &'a [u8; 128],
-    n: usize,
-) -> bool
-    requires { ⌜ n < 128 ⌝ }
-    ensures { λ r. ⌜ Decides r (NodeStates (treeOf (now (state .entry)) (now (tag .entry)) (now (parent .entry))) n) ⌝ }
+// Has every node one of the three states?
+fn kinds(state: &[u8; 128]) -> bool
+    ensures { λ r. ⌜ Decides r (Below (Kind (now (state .entry))) 128) ⌝ }
 {
-    if state[n] == 1 {
-        return true;
+    let mut wrong: u8 = 0;
+    let mut n: usize = 0;
+    while n < 128 {
+        if state[n] > 2 {
+            wrong += 1;
+        }
+        n += 1;
     }
-    if state[n] > 2 {
-        return false;
+    wrong == 0
+}
+
+// Has no empty node a parent?
+fn hung<'a>(state: &'a [u8; 128], parent: &'a [u8; 128]) -> bool
+    ensures { λ r. ⌜ Decides r (Below (Hung (now (state .entry)) (now (parent .entry))) 128) ⌝ }
+{
+    let mut wrong: u8 = 0;
+    let mut n: usize = 0;
+    while n < 128 {
+        let s = state[n];
+        let p = parent[n];
+        if s == 0 {
+            if p != 0 {
+                wrong += 1;
+            }
+        }
+        n += 1;
     }
-    if tag[n] != 0 {
-        return false;
+    wrong == 0
+}
+
+// Has no node a tag that is not alive?
+fn named<'a>(state: &'a [u8; 128], tag: &'a [u16; 128]) -> bool
+    ensures { λ r. ⌜ Decides r (Below (Named (now (state .entry)) (now (tag .entry))) 128) ⌝ }
+{
+    let mut wrong: u8 = 0;
+    let mut n: usize = 0;
+    while n < 128 {
+        let s = state[n];
+        let g = tag[n];
+        if s != 1 {
+            if g != 0 {
+                wrong += 1;
+            }
+        }
+        n += 1;
     }
-    if state[n] == 2 {
-        return true;
-    }
-    if parent[n] != 0 {
-        return false;
-    }
-    true
+    wrong == 0
 }
 
 // Rule 2.
@@ -46,12 +71,14 @@ pub fn states<'a>(state: &'a [u8; 128], tag: &'a [u16; 128], parent: &'a [u8; 12
     if parent[0] != 0 {
         return false;
     }
-    let mut n: usize = 0;
-    while n < 128 {
-        if !node_states(state, tag, parent, n) {
-            return false;
-        }
-        n += 1;
+    if !kinds(state) {
+        return false;
+    }
+    if !hung(state, parent) {
+        return false;
+    }
+    if !named(state, tag) {
+        return false;
     }
     true
 }

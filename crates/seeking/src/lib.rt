@@ -1,9 +1,8 @@
-// Rule 7 of SPEC 4: every exception is read by some living version.
+// Rule 7 of SPEC 4 at one exception: is it read by some living version?
 ghost use Prim.Native.Nat.{_<_};
 ghost use lib.ListN.{length};
 ghost use Rattle.basics.specs.Decide.{Decides};
 ghost use Rattle.trees.specs.Trees.{treeOf, tableOf};
-ghost use Rattle.trees.specs.Rules.{AllRead};
 ghost use Rattle.table.specs.Rules.{Seeking, Nodes, Met, Judging, ReadAt};
 use measures::Row;
 
@@ -45,7 +44,7 @@ fn seen<'a>(
     requires { ⌜ Seeking (treeOf (now state) (now tag) (now parent)) (now marks) g (r .0) × Nodes (now first) × Nodes (now after) × (g < 128) ⌝ }
     ensures { λ b. ⌜ Decides b (Met (treeOf (now (state .entry)) (now (tag .entry)) (now (parent .entry))) (now (marks .entry)) (r .0) g) ⌝ }
 {
-    let n = guessing::likely(state, first, after, marks, g, r);
+    let n = guessing::reader(state, parent, first, after, marks, g, r);
     if state[n] == 1 {
         if table::meets(state, tag, parent, marks, n, g, r) {
             return true;
@@ -55,7 +54,7 @@ fn seen<'a>(
 }
 
 // Rule 7 at one entry. A living node reads its own rows; only a ghost's are looked for.
-fn is_read<'a>(
+pub fn is_read<'a>(
     state: &'a [u8; 128],
     tag: &'a [u16; 128],
     parent: &'a [u8; 128],
@@ -82,29 +81,4 @@ fn is_read<'a>(
         return true;
     }
     false
-}
-
-// Rule 7, of a table that meets rule 6.
-pub fn all_read<'a>(
-    state: &'a [u8; 128],
-    tag: &'a [u16; 128],
-    parent: &'a [u8; 128],
-    first: &'a [u8; 128],
-    after: &'a [u8; 128],
-    rows: usize,
-    node: &'a [u8],
-    row: &'a [u16],
-    marks: &'a [u8],
-) -> bool
-    requires { ⌜ Nodes (now first) × Nodes (now after) × Judging (treeOf (now state) (now tag) (now parent)) (tableOf rows (now node) (now row)) (now marks) ⌝ }
-    ensures { λ b. ⌜ Decides b (AllRead (treeOf (now (state .entry)) (now (tag .entry)) (now (parent .entry))) (tableOf rows (now (node .entry)) (now (row .entry)))) ⌝ }
-{
-    let mut i: usize = 0;
-    while i < node.len() {
-        if !is_read(state, tag, parent, first, after, rows, node, row, marks, i) {
-            return false;
-        }
-        i += 1;
-    }
-    true
 }

@@ -1,13 +1,11 @@
 -- The seven rules in the three parts that are checked: the measures, the tree, the table. Assumes nothing.
-use mathlib.Core.Path.{sym, _∙_}
 use Prim.Native.Nat.{_+_, _≤_}
 use native.Mathlib.Omega.{arith}
 use lib.ListN.{length}
 use Rattle.records.specs.Records.{Records, table}
 use Rattle.records.specs.Sound.{Measured, Sound}
-use Rattle.trees.specs.Rules.{Linked}
 use Rattle.tree.specs.Rules.{TreeSound}
-use Rattle.table.specs.Rules.{Fitting, TableSound}
+use Rattle.table.specs.Rules.{TableSound}
 
 module _ (z : Records) where
   pub sound-of : Measured z → TreeSound (z .tree) → TableSound (z .tree) (table z) → Sound z
@@ -26,10 +24,6 @@ module _ (z : Records) where
 
   pub table-of : Sound z → TableSound (z .tree) (table z)
   table-of s = record { excepting = s .excepting; allRead = s .allRead }
-
-  -- what the table's check asks
-  pub fitting : Measured z → Linked (z .tree) → Fitting (z .tree) (table z)
-  fitting m l = record { halves = m .rows ∙ sym (m .nodes); few = m .within .rows .1; linked = l }
 
 -- there are at most 4,096 places, those of the origin and those of the table
 pub few-places : (z : Records) → Sound z → z .size .rows + length (z .node) ≤ 4096

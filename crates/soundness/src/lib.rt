@@ -21,20 +21,22 @@ pub fn judged<'a>(size: Size, tree: Tree, node: &'a [u8], row: &'a [u16], marks:
     if row.len() != size.places - size.rows {
         return false;
     }
-    if !rules::tree_sound(&tree.state, &tree.tag, &tree.parent) {
-        return false;
-    }
     let rows = size.rows;
-    if !rules::table_sound(&tree.state, &tree.tag, &tree.parent, rows, node, row, marks) {
-        return false;
-    }
-    true
+    rules::all_sound(&tree.state, &tree.tag, &tree.parent, rows, node, row, marks)
 }
 
-// The seven rules.
+// The seven rules, with as many marks as the rows call for: 16 bytes for each.
 pub fn sound<'a>(size: Size, tree: Tree, node: &'a [u8], row: &'a [u16]) -> bool
     ensures { λ b. ⌜ Decides b (Sound (recordsOf size tree (now (node .entry)) (now (row .entry)))) ⌝ }
 {
+    if size.rows <= 16 {
+        let mut few = [0u8; 256];
+        return judged(size, tree, node, row, &mut few);
+    }
+    if size.rows <= 128 {
+        let mut some = [0u8; 2048];
+        return judged(size, tree, node, row, &mut some);
+    }
     let mut marks = [0u8; 16384];
     judged(size, tree, node, row, &mut marks)
 }

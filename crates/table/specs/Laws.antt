@@ -78,16 +78,13 @@ module _ (e : Table) (marks : List ℕ) where
 pub entering-first : (e : Table) (marks : List ℕ) → length (e .row) ≡ length (e .node) → e .rows ≤ 1024 → Blank (e .rows) marks → Entering e marks 0
 entering-first e marks h f b = record { halves = h; few = f; marked = marked-none e marks (b .room f) (b .zero) }
 
-pub blank-zeros : (rows : ℕ) → Blank rows (replicate 16384 0)
-blank-zeros rows = record {
-  room = λ l. omega (arith, l, length-replicate {A = ℕ} 16384 0);
-  zero = λ k. zeros 16384 k;
+pub blank-zeros : (rows n : ℕ) → (rows ≤ 1024 → rows * 16 ≤ n) → Blank rows (replicate n 0)
+blank-zeros rows n h = record {
+  room = λ l. omega (arith, h l, length-replicate {A = ℕ} n 0);
+  zero = λ k. by-cases (decLt k n)
+      (λ l. getD-replicate {A = ℕ} n k 0 0 l)
+      (λ l. List·getD-eq-default (replicate n 0) 0 {n = k} (omega (arith, length-replicate {A = ℕ} n 0)));
 }
-  where
-    zeros : (n k : ℕ) → at (replicate n 0) k ≡ 0
-    zeros n k = by-cases (decLt k n)
-        (λ l. getD-replicate {A = ℕ} n k 0 0 l)
-        (λ l. List·getD-eq-default (replicate n 0) 0 {n = k} (omega (arith, length-replicate {A = ℕ} n 0)))
 
 -- Numbers of nodes
 

@@ -29,11 +29,11 @@ pub fn version<'a>(
     Found::Missing
 }
 
-// How many snapshots are alive.
+// How many snapshots are alive, counted in a byte: so the compiler takes many nodes at once.
 pub fn snapshots<'a>(state: &'a [u8; 128], tag: &'a [u16; 128], parent: &'a [u8; 128]) -> usize
     ensures { λ r. ⌜ r ≡ snapshots (treeOf (now (state .entry)) (now (tag .entry)) (now (parent .entry))) ⌝ }
 {
-    let mut alive: usize = 0;
+    let mut alive: u8 = 0;
     let mut n: usize = 1;
     while n < 128 {
         if state[n] == 1 {
@@ -41,5 +41,5 @@ pub fn snapshots<'a>(state: &'a [u8; 128], tag: &'a [u16; 128], parent: &'a [u8;
         }
         n += 1;
     }
-    alive
+    alive as usize
 }

@@ -1,20 +1,21 @@
 -- `branching::branching` meets its contract. Assumes nothing.
 use borrow.Author.Needs.{needs}
-use Prim.Native.Nat.{ℕ, _≤_, _<_, _-_}
-use mathlib.Core.Path.{_≡_}
-use mathlib.Core.Logic.{⊎-elim}
+use Prim.Native.Nat.{_≤_, _-_}
 use native.Mathlib.Omega.{arith}
 use borrow.Author.Count.{below-more}
-use Rattle.branching.specs.Children.{branch-all, branch-root, branch-ghost}
-use Rattle.basics.specs.Decide.{at}
+use lib.ListN.{length}
+use Rattle.basics.specs.Decide.{at, passed, failed}
+use Rattle.faults.specs.Faults.{Below}
+use Rattle.trees.specs.Trees.{treeOf}
+use Rattle.branching.specs.Children.{Forks, branch-root, branch-ghost, branch-all}
 use Rattle.branching.proofs.branching.Statement.{statement}
 use Rattle.branching.proofs.branching.Tie as tie
 
 abbrev Inv-loop : tie.InvT-loop
-Inv-loop state tag parent kids n₀ n = (n ≤ 128) × ((k : ℕ) → k < n → at state k ≡ 2 → 2 ≤ at kids k)
+Inv-loop state tag parent used kids j₀ j = (j ≤ length used) × Below (λ i. Forks (treeOf state tag parent) kids (at used i)) j
 
 abbrev μ-loop : tie.MeasureT-loop
-μ-loop state tag parent kids n₀ n = 128 - n
+μ-loop state tag parent used kids j₀ j = length used - j
 
 tally-requires : tie.Need-tally-requires Inv-loop μ-loop
 tally-requires c κs = search needs
@@ -23,38 +24,39 @@ array-read-if1 : tie.Need-array-read-if1 Inv-loop μ-loop
 array-read-if1 c = search needs
 
 returns : tie.Need-returns Inv-loop μ-loop
-returns c = λ b. omega (arith, c .if1 .taken, branch-root _ (c .before .tally .result) (c .before .tally .ensures) b)
+returns c = λ b. omega (arith, c .if1 .taken, branch-root _ _ (c .before .before .before .pre .2) (c .before .tally .result) (c .before .tally .ensures) b)
 
 loop-holds : tie.Need-loop-holds Inv-loop μ-loop
-loop-holds c = (omega arith, λ k l. absurd (omega arith))
+loop-holds c = (omega arith, λ i l. absurd (omega arith))
 
-element-copy-out-if2 : tie.Need-element-copy-out-if2 Inv-loop μ-loop
-element-copy-out-if2 c = search needs
-
-array-read-if3 : tie.Need-array-read-if3 Inv-loop μ-loop
-array-read-if3 c = search needs
+forks-requires : tie.Need-forks-requires Inv-loop μ-loop
+forks-requires c κs = search needs
 
 returns-2 : tie.Need-returns-2 Inv-loop μ-loop
 returns-2 c = λ b.
-    let d = c .before in
-    let l = d .before .before in
-    let k = l .before .before .before .tally in
-    omega (arith, c .if3 .taken, branch-ghost _ (k .result) (k .ensures) b (l .before .loop .n) (l .loop-test .taken) (d .if2 .taken))
+    let f = c .before in
+    let i = f .before .before in
+    let k = i .before .before .before in
+    let p = k .before .before .pre in
+    let (z, l, u) = p .2 .each _ (i .loop-test .taken) in
+    failed (f .forks .result) (f .forks .ensures) (c .if2 .taken) (branch-ghost _ _ (p .2) (k .tally .result) (k .tally .ensures) b _ l)
 
-add-n : tie.Need-add-n Inv-loop μ-loop
-add-n c = search needs
+add-j : tie.Need-add-j Inv-loop μ-loop
+add-j c = search needs
 
 loop-less : tie.Need-loop-less Inv-loop μ-loop
 loop-less c = search needs
 
 loop-again : tie.Need-loop-again Inv-loop μ-loop
-loop-again c = (omega arith, below-more _ _ (c .before .before .before .loop .inv .1) (⊎-elim (λ w u. w .1 .left) (λ w u. absurd (w .left u)) (c .if2 .came)))
+loop-again c = let f = c .before in
+    (omega arith, below-more _ _ (f .before .before .before .loop .inv .1) (passed (f .forks .result) (f .forks .ensures) (c .if2 .left)))
 
 returns-3 : tie.Need-returns-3 Inv-loop μ-loop
-returns-3 c =
-    let e = c .before .before in
-    let k = e .before .tally in
-    branch-all _ (k .result) (k .ensures) (omega (arith, e .if1 .left)) (λ n l. c .before .loop .inv .1 n (omega arith))
+returns-3 c = let l = c .before in
+    let e = l .before in
+    let k = e .before in
+    let p = k .before .before .pre in
+    branch-all _ _ (p .2) (k .tally .result) (k .tally .ensures) (p .0) (omega (arith, e .if1 .left)) (λ i b. l .loop .inv .1 i (omega (arith, l .loop .inv .0, c .loop-test .left)))
 
 pub branching-spec : {M : Type 1} → statement M
 branching-spec =
@@ -66,10 +68,9 @@ branching-spec =
     array-read-if1
     returns
     loop-holds
-    element-copy-out-if2
-    array-read-if3
+    forks-requires
     returns-2
-    add-n
+    add-j
     loop-less
     loop-again
     returns-3)

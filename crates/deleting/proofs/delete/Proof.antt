@@ -1,5 +1,6 @@
 -- `deleting::delete` meets its contract: there is a mark for each node and row. Assumes nothing.
 use borrow.Author.Needs.{needs}
+use native.Mathlib.Omega.{arith}
 use Rattle.table.specs.Laws.{blank-zeros}
 use Rattle.deleting.proofs.delete.Statement.{statement}
 use Rattle.deleting.proofs.delete.Tie as tie
@@ -8,7 +9,7 @@ slice-aggregate-delete-marked : tie.Need-slice-aggregate-delete-marked
 slice-aggregate-delete-marked c = search needs
 
 delete-marked-requires : tie.Need-delete-marked-requires
-delete-marked-requires c κs = blank-zeros _
+delete-marked-requires c κs = blank-zeros _ 16384 (λ l. omega arith)
 
 same-length : tie.Need-same-length
 same-length c = search needs

@@ -11,8 +11,8 @@ use Rattle.rules.proofs.table_sound.Tie as tie
 
 entries-requires : tie.Need-entries-requires
 entries-requires c κs =
-    let p = c .before .before .before .before .pre in
-    entering-first _ _ (p .0 .halves) (p .0 .few) (p .1)
+    let p = c .before .before .before .before .before .pre in
+    entering-first _ _ (p .1 .halves) (p .1 .few) (p .2)
 
 same-length : tie.Need-same-length
 same-length c = search needs
@@ -23,26 +23,16 @@ returns c =
     record { decided = λ s. failed (n .result) (n .ensures .decided) (c .if1 .taken) (s .excepting); marked = λ x. absurd (false≢true x) }
 
 -- past its test rule 6 holds
-fits : (c : tie.Else1) → (let a = c .before .before .before .before .before .before .before .before .args in Excepting (treeOf (a .state .now) (a .tag .now) (a .parent .now)) (tableOf (a .rows) (a .node .now) (a .row .now)))
+fits : (c : tie.Else1)
+    → (let a = c .before .before .before .before .before .before .before .before .before .args in Excepting (treeOf (a .state .now) (a .tag .now) (a .parent .now)) (tableOf (a .rows) (a .node .now) (a .row .now)))
 fits c = let n = c .before .before .before .entries in passed (n .result) (n .ensures .decided) (c .if1 .left)
-
-kin-requires : tie.Need-kin-requires
-kin-requires c κs = c .before .before .before .before .before .before .before .before .pre .0 .linked
 
 all-read-requires : tie.Need-all-read-requires
 all-read-requires c κs =
-    let k = c .before .before .before .before in
-    let i = k .before in
+    let i = c .before in
     let m = i .before .before .before in
-    let n = m .entries in (
-      k .kin .ensures .0,
-      k .kin .ensures .1,
-      record {
-        fitting = m .before .before .before .before .before .pre .0;
-        excepting = fits i;
-        marked = n .ensures .marked (not-false _ (i .if1 .left));
-      },
-    )
+    let p = m .before .before .before .before .before .before .pre in
+    (p .0, record { fitting = p .1; excepting = fits i; marked = m .entries .ensures .marked (not-false _ (i .if1 .left)) })
 
 same-length-2 : tie.Need-same-length-2
 same-length-2 c = search needs
@@ -58,7 +48,7 @@ same-length-3 c = search needs
 
 returns-3 : tie.Need-returns-3
 returns-3 c =
-    let i = c .before .before .before .before .before .before .before in
+    let i = c .before .before .before in
     let n = i .before .before .before .entries in
     record {
       decided = record {
@@ -69,4 +59,4 @@ returns-3 c =
     }
 
 pub table-sound-spec : {M : Type 1} → statement M
-table-sound-spec = tie.close (tie.spec entries-requires same-length returns kin-requires all-read-requires same-length-2 returns-2 same-length-3 returns-3)
+table-sound-spec = tie.close (tie.spec entries-requires same-length returns all-read-requires same-length-2 returns-2 same-length-3 returns-3)

@@ -19,15 +19,19 @@ returns-2 c = λ s. failed (c .before .linked .result) (c .before .linked .ensur
 tagged-requires : tie.Need-tagged-requires
 tagged-requires c κs =
     let d = c .before .before in
-    passed (d .before .states .result) (d .before .states .ensures) (d .if1 .left)
+    (passed (d .before .states .result) (d .before .states .ensures) (d .if1 .left), search needs)
 
 returns-3 : tie.Need-returns-3
 returns-3 c = λ s. failed (c .before .tagged .result) (c .before .tagged .ensures) (c .if3 .taken) (s .tagged)
 
 branching-requires : tie.Need-branching-requires
-branching-requires c κs = λ n l.
+branching-requires c κs =
     let d = c .before .before in
-    passed (d .before .linked .result) (d .before .linked .ensures) (d .if2 .left) .parent n
+    let e = d .before .before in (
+      passed (e .before .states .result) (e .before .states .ensures) (e .if1 .left),
+      λ n l. passed (d .before .linked .result) (d .before .linked .ensures) (d .if2 .left) .parent n,
+      search needs,
+    )
 
 returns-4 : tie.Need-returns-4
 returns-4 c = λ s. failed (c .before .branching .result) (c .before .branching .ensures) (c .if4 .taken) (s .branching)

@@ -1,13 +1,12 @@
 -- `soundness::judged` meets its contract: the parts, one after the other. Assumes nothing.
 use borrow.Author.Needs.{needs}
-use borrow.Author.Tests.{not-false}
-use Rattle.soundness.specs.Parts.{sound-of, tree-of, table-of, fitting}
+use mathlib.Core.Path.{sym, _∙_}
+use Rattle.soundness.specs.Parts.{sound-of, tree-of, table-of}
 use Rattle.table.specs.Laws.{verdict-no}
-use Rattle.tree.specs.Rules.{TreeSound}
 use Rattle.records.specs.Sound.{Measured}
 use Rattle.records.specs.Records.{recordsOf}
 use Rattle.measures.specs.Measures.{Within}
-use Rattle.basics.specs.Decide.{passed, failed}
+use Rattle.basics.specs.Decide.{passed, failed, decides-iff}
 use Rattle.soundness.proofs.judged.Statement.{statement}
 use Rattle.soundness.proofs.judged.Tie as tie
 
@@ -18,9 +17,6 @@ measured : (c : tie.Else3) → (let a = c .before .before .before .before .befor
 measured c =
     let n = c .before .before in
     record { within = sized (n .before .before); nodes = n .if2 .left; rows = c .if3 .left }
-
-grown : (c : tie.Else4) → TreeSound (c .before .before .before .before .before .before .before .before .before .before .before .before .before .before .before .args .t2)
-grown c = passed (c .before .tree-sound .result) (c .before .tree-sound .ensures) (c .if4 .left)
 
 within-requires : tie.Need-within-requires
 within-requires c κs = search needs
@@ -40,51 +36,23 @@ sub-if3 c = sized (c .before .before .before) .places .0
 returns-3 : tie.Need-returns-3
 returns-3 c = verdict-no _ _ _ (λ s. c .if3 .taken (s .measured .rows))
 
-tree-sound-requires : tie.Need-tree-sound-requires
-tree-sound-requires c κs = search needs
-
-returns-4 : tie.Need-returns-4
-returns-4 c = verdict-no _ _ _ (λ s. failed (c .before .tree-sound .result) (c .before .tree-sound .ensures) (c .if4 .taken) (tree-of _ s))
-
-table-sound-requires : tie.Need-table-sound-requires
-table-sound-requires c κs =
-    let t = c .before .before .before .before .before in
-    (fitting _ (measured (t .before .before .before .before .before .before)) (grown t .linked), t .before .before .before .before .before .before .before .before .before .before .before .before .before .before .before .pre)
+all-sound-requires : tie.Need-all-sound-requires
+all-sound-requires c κs =
+    let e = c .before .before .before .before .before in
+    let m = measured e in
+    (m .rows ∙ sym (m .nodes), m .within .rows .1, e .before .before .before .before .before .before .before .before .before .pre)
 
 same-length : tie.Need-same-length
 same-length c = search needs
 
-returns-5 : tie.Need-returns-5
-returns-5 c =
-    let j = c .before .before .before .table-sound in
-    verdict-no _ _ _ (λ s. failed (j .result) (j .ensures .decided) (c .if5 .taken) (table-of _ s))
-
-same-length-2 : tie.Need-same-length-2
-same-length-2 c = search needs
-
-returns-6 : tie.Need-returns-6
-returns-6 c =
-    let j = c .before .before .before in
-    let t = j .before .before .before .before .before .before in
+returns-4 : tie.Need-returns-4
+returns-4 c =
+    let j = c .before .before in
+    let m = measured (j .before .before .before .before .before .before) in
     record {
-      decided = sound-of _ (measured (t .before .before .before .before .before .before)) (grown t) (passed (j .table-sound .result) (j .table-sound .ensures .decided) (c .if5 .left));
-      marked = λ x. j .table-sound .ensures .marked (not-false _ (c .if5 .left));
+      decided = decides-iff (j .all-sound .result) (λ s. sound-of _ m (s .0) (s .1), λ s. (tree-of _ s, table-of _ s)) (j .all-sound .ensures .decided);
+      marked = j .all-sound .ensures .marked;
     }
 
 pub judged-spec : {M : Type 1} → statement M
-judged-spec =
-    tie.close
-    (tie.spec
-    within-requires
-    returns
-    sub-if2
-    returns-2
-    sub-if3
-    returns-3
-    tree-sound-requires
-    returns-4
-    table-sound-requires
-    same-length
-    returns-5
-    same-length-2
-    returns-6)
+judged-spec = tie.close (tie.spec within-requires returns sub-if2 returns-2 sub-if3 returns-3 all-sound-requires same-length returns-4)

@@ -49,6 +49,9 @@ loop-again c =
           (c .if1 .came),
     )
 
+cast-result : tie.Need-cast-result Inv-loop μ-loop
+cast-result c = search needs
+
 returns : tie.Need-returns Inv-loop μ-loop
 unfolding snapshots
 returns c =
@@ -67,4 +70,5 @@ snapshots-spec =
     add-n
     loop-less
     loop-again
+    cast-result
     returns)

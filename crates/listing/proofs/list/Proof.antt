@@ -1,0 +1,90 @@
+-- `listing::list` meets its contract: stretch by stretch the list grows. Assumes nothing.
+use borrow.Author.Needs.{needs}
+use Prim.Native.Nat.{ℕ, _≤_, _+_, _*_, _-_}
+use mathlib.Core.Path.{_≡_}
+use native.Mathlib.Omega.{arith}
+use lib.ListN.{length}
+use Rattle.basics.specs.Decide.{passed, failed}
+use Rattle.listing.specs.Listed.{Listing, listing-first, listing-idle, listed-of}
+use Rattle.listing.proofs.list.Statement.{statement}
+use Rattle.listing.proofs.list.Tie as tie
+
+abbrev Inv-loop : tie.InvT-loop
+Inv-loop state out₀ k₀ n₀ out k n = (n ≤ 128) × ((j : ℕ) × (n ≡ j * 16)) × Listing state out k n
+
+abbrev μ-loop : tie.MeasureT-loop
+μ-loop state out₀ k₀ n₀ out k n = 128 - n
+
+loop-holds : tie.Need-loop-holds Inv-loop μ-loop
+loop-holds c = (omega arith, (0, omega arith), listing-first _ _ (c .before .before .pre .1))
+
+add-to : tie.Need-add-to Inv-loop μ-loop
+add-to c = search needs
+
+sub-idle : tie.Need-sub-idle Inv-loop μ-loop
+sub-idle c = search needs
+
+part-idle-start : tie.Need-part-idle-start Inv-loop μ-loop
+part-idle-start c = search needs
+
+part-idle-end : tie.Need-part-idle-end Inv-loop μ-loop
+part-idle-end c = let v = c .before .loop .inv in omega (arith, v .1 .1, c .loop-test .taken, c .before .before .before .before .pre .0)
+
+idle-requires : tie.Need-idle-requires Inv-loop μ-loop
+idle-requires c κs = search needs
+
+enlist-requires : tie.Need-enlist-requires Inv-loop μ-loop
+enlist-requires c κs = let i = c .before .before .before .before in
+    let l = i .before in
+    let v = l .loop .inv in
+    (l .before .before .before .pre .0, omega arith, omega (arith, v .1 .1, i .loop-test .taken), v .2)
+
+loop-less : tie.Need-loop-less Inv-loop μ-loop
+loop-less c = search needs
+
+loop-again : tie.Need-loop-again Inv-loop μ-loop
+loop-again c = let e = c .before .before in
+    let i = e .before .before .before .before .before in
+    let v = i .before .loop .inv in
+    (omega (arith, v .1 .1, i .loop-test .taken), (v .1 .0 + 1, omega (arith, v .1 .1)), e .enlist .ensures)
+
+loop-less-2 : tie.Need-loop-less-2 Inv-loop μ-loop
+loop-less-2 c = search needs
+
+loop-again-2 : tie.Need-loop-again-2 Inv-loop μ-loop
+loop-again-2 c = let a = c .before in
+    let i = a .before .before in
+    let l = i .before in
+    let v = l .loop .inv in (
+      omega (arith, v .1 .1, i .loop-test .taken),
+      (v .1 .0 + 1, omega (arith, v .1 .1)),
+      listing-idle _ _ _ _ _ (omega arith) (omega (arith, v .1 .1, i .loop-test .taken, l .before .before .before .pre .0)) (passed (a .idle .result) (a .idle .ensures) (c .if1 .left)) (v .2),
+    )
+
+same-length : tie.Need-same-length Inv-loop μ-loop
+same-length c = search needs
+
+returns : tie.Need-returns Inv-loop μ-loop
+returns c = let l = c .before in
+    let e : l .loop .n ≡ 128 = omega (arith, l .loop .inv .0, c .loop-test .left) in
+    let h = rw e at (l .loop .inv .2) in (omega (arith, h .most), listed-of _ _ _ h, h .size)
+
+pub list-spec : {M : Type 1} → statement M
+list-spec =
+    tie.close
+    (tie.spec
+    Inv-loop
+    μ-loop
+    loop-holds
+    add-to
+    sub-idle
+    part-idle-start
+    part-idle-end
+    idle-requires
+    enlist-requires
+    loop-less
+    loop-again
+    loop-less-2
+    loop-again-2
+    same-length
+    returns)

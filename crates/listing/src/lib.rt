@@ -1,0 +1,59 @@
+// The nodes in use, side by side, so that the rules of the tree go through these alone.
+ghost use mathlib.Core.Path.{_≡_};
+ghost use Prim.Native.Nat.{_≤_};
+ghost use lib.ListN.{length, take};
+ghost use Rattle.basics.specs.Decide.{Decides};
+ghost use Rattle.faults.specs.Faults.{Below};
+ghost use Rattle.listing.specs.Listed.{Listed, Listing, Idle};
+
+// Is none of a few nodes in use? All are looked at, and none is left early: so the compiler takes many at once.
+fn idle(part: &[u8]) -> bool
+    requires { ⌜ length (now part) ≤ 16 ⌝ }
+    ensures { λ b. ⌜ Decides b (Below (Idle (now (part .entry))) (length (now (part .entry)))) ⌝ }
+{
+    let mut busy: u8 = 0;
+    let mut n: usize = 0;
+    while n < part.len() {
+        if part[n] != 0 {
+            busy += 1;
+        }
+        n += 1;
+    }
+    busy == 0
+}
+
+// The nodes in use from one node to another join the list, which has k already.
+fn enlist(state: &[u8], out: &mut [u8], k: usize, from: usize, to: usize) -> usize
+    requires { ⌜ (length (now state) ≡ 128) × (from ≤ to) × (to ≤ 128) × Listing (now state) (now out) k from ⌝ }
+    ensures { λ m. ⌜ Listing (now (state .entry)) (now (out .exit)) m to ⌝ }
+{
+    let mut m = k;
+    let mut n = from;
+    while n < to {
+        if n != 0 {
+            if state[n] != 0 {
+                out[m] = n as u8;
+                m += 1;
+            }
+        }
+        n += 1;
+    }
+    m
+}
+
+// All nodes in use but node 0. Stretches of 16 that have none are passed as a whole.
+pub fn list(state: &[u8], out: &mut [u8]) -> usize
+    requires { ⌜ (length (now state) ≡ 128) × (length (now out) ≡ 128) ⌝ }
+    ensures { λ k. ⌜ (k ≤ 128) × Listed (now (state .entry)) (take k (now (out .exit))) × (length (now (out .exit)) ≡ 128) ⌝ }
+{
+    let mut k: usize = 0;
+    let mut n: usize = 0;
+    while n < 128 {
+        let to = n + 16;
+        if !idle(&state[n..to]) {
+            k = enlist(state, out, k, n, to);
+        }
+        n = to;
+    }
+    k
+}
