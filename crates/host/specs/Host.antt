@@ -23,10 +23,9 @@ HostEnds b verdict old new answer got = Host b (Leaves verdict old new answer go
 abbrev pub Lent : Type 0
 Lent = List ℕ × List ℕ
 
--- Buffers for the two halves of the table, of the lengths that the bytes ask for
-pub record Ready (b node row : List ℕ) : Type 0 where
+-- a buffer for the rows, of the length that the bytes ask for
+pub record Ready (b row : List ℕ) : Type 0 where
   pub fits : Fits b
-  pub nodes : length node ≡ entries (sizeAt b)
   pub rows : length row ≡ entries (sizeAt b)
 
 -- What is kept of the record bytes: new ones where a call was accepted, else those that were there

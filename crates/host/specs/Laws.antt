@@ -1,10 +1,9 @@
 -- From a call's promise on records to that on bytes. Assumes nothing.
-use mathlib.Core.Path.{_≡_, sym, _∙_, ap}
+use mathlib.Core.Path.{_≡_, sym, _∙_}
 use mathlib.Core.Logic.{_≢_}
 use mathlib.Core.List.{List}
 use mathlib.Core.Option.{Option, none, some}
 use Prim.Native.Nat.{ℕ, _≤_}
-use native.Mathlib.Omega.{arith}
 use lib.ListN.{length, take}
 use lib.Seq.{length-take-le}
 use Rattle.measures.specs.declared.Size.{Size}
@@ -13,7 +12,7 @@ use Rattle.records.specs.Records.{recordsOf}
 use Rattle.answers.specs.Answers.{Refusal, unsound, number}
 use Rattle.answers.specs.Laws.{number-some}
 use Rattle.soundness.specs.Judged.{Judged, Leaves}
-use Rattle.layout.specs.Layout.{entries, sizeAt, loaded, Fits}
+use Rattle.layout.specs.Layout.{entries, sizeAt, nodesAt, loaded, Fits}
 use Rattle.host.specs.Host.{Host, HostEnds, Ready}
 
 -- bytes that fit are judged by the records that they are loaded as; others are not sound
@@ -35,17 +34,13 @@ module _ {A B : Type 0} {old new got : A} {old′ new′ got′ : B} {answer : �
     unsound = λ g. let u = j .unsound g in (u .0, h (λ e. number-some unsound (sym (u .0) ∙ e)) (u .1));
   })
 
--- what a call found in the buffers is what the bytes are loaded as
-pub as-loaded : (b : List ℕ) {size : Size} {t : Tree} {node row : List ℕ} → size ≡ sizeAt b → recordsOf (sizeAt b) t node row ≡ loaded b → recordsOf size t node row ≡ loaded b
-as-loaded b {t = t} {node = node} {row = row} e l = ap (λ (s : Size). recordsOf s t node row) e ∙ l
+-- what a call found is what the bytes are loaded as
+pub as-loaded : (b : List ℕ) {size : Size} {t : Tree} {node row : List ℕ} → size ≡ sizeAt b → node ≡ nodesAt b → recordsOf (sizeAt b) t (nodesAt b) row ≡ loaded b → recordsOf size t node row ≡ loaded b
+as-loaded b e n l = rw (e, n) l
 
 -- the front of a buffer, as long as the table
-pub ready : {b : List ℕ} (xs ys : List ℕ) {n : ℕ} → Fits b → (n ≡ entries (sizeAt b)) × (n ≤ 4096) → length xs ≡ 4096 → length ys ≡ 4096 → Ready b (take n xs) (take n ys)
-ready xs ys {n = n} f e p q = record {
-  fits = f;
-  nodes = length-take-le n xs (omega (arith, p, e .1)) ∙ e .0;
-  rows = length-take-le n ys (omega (arith, q, e .1)) ∙ e .0;
-}
+pub ready : {b : List ℕ} (xs : List ℕ) {n : ℕ} → Fits b → n ≡ entries (sizeAt b) → n ≤ length xs → Ready b (take n xs)
+ready xs {n} f e m = record { fits = f; rows = length-take-le n xs m ∙ e }
 
-pub front : {n : ℕ} (xs : List ℕ) → n ≤ 4096 → length xs ≡ 4096 → n ≡ length (take n xs)
-front {n} xs m e = sym (length-take-le n xs (omega (arith, m, e)))
+pub front : {n : ℕ} (xs : List ℕ) → n ≤ length xs → n ≡ length (take n xs)
+front {n} xs m = sym (length-take-le n xs m)

@@ -1,25 +1,27 @@
 // What the calls of the C interface share, the records being bytes.
-ghost use mathlib.Core.Path.{_≡_};
 ghost use Rattle.records.specs.Records.{recordsOf};
-ghost use Rattle.layout.specs.Layout.{sizeAt, stored};
+ghost use Rattle.layout.specs.Layout.{sizeAt, nodesAt, rowsAt, stored, Fits};
 ghost use Rattle.host.specs.Host.{Ready, Kept};
-use measures::Size;
 use trees::Tree;
 
-// What a call left is stored, unless it was refused.
-pub fn keep<'a>(
-    records: &mut [u8],
-    size: Size,
-    answer: u8,
-    tree: Tree,
-    node: &'a [u8],
-    row: &'a [u16],
-)
-    requires { ⌜ Ready (now records) (now node) (now row) × (size ≡ sizeAt (now records)) ⌝ }
-    ensures { λ r. ⌜ Kept answer (now (records .entry)) (stored (recordsOf size tree (now (node .entry)) (now (row .entry)))) (now (records .exit)) ⌝ }
+// What a call left is stored, unless it was refused: the tree and the rows. The nodes lie where the call had them.
+pub fn keep(records: &mut [u8], answer: u8, tree: Tree, row: &[u16])
+    requires { ⌜ Ready (now records) (now row) ⌝ }
+    ensures { λ r. ⌜ Kept answer (now (records .entry)) (stored (recordsOf (sizeAt (now (records .entry))) tree (nodesAt (now (records .entry))) (now (row .entry)))) (now (records .exit)) ⌝ }
 {
     if answer != 0 {
         return;
     }
-    recording::store(records, size, tree, node, row);
+    recording::renew(records, tree, row);
+}
+
+// The same of a call that changes the tree alone.
+pub fn keep_tree(records: &mut [u8], answer: u8, tree: Tree)
+    requires { ⌜ Fits (now records) ⌝ }
+    ensures { λ r. ⌜ Kept answer (now (records .entry)) (stored (recordsOf (sizeAt (now (records .entry))) tree (nodesAt (now (records .entry))) (rowsAt (now (records .entry))))) (now (records .exit)) ⌝ }
+{
+    if answer != 0 {
+        return;
+    }
+    recording::renew_tree(records, tree);
 }

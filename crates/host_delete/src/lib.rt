@@ -1,6 +1,7 @@
-// A delete, the records being bytes. The table is loaded into buffers of its own.
+// A delete, the records being bytes. The rows are loaded into a buffer of their own, as small as serves.
 ghost use Rattle.host.specs.Host.{Ready};
 ghost use Rattle.host_delete.specs.Deletes.{HostDeletes};
+use layout::TABLE_AT;
 
 // The version with a tag goes. Refusals: 20, 5, 21.
 pub fn delete(records: &mut [u8], tag: u16) -> u8
@@ -10,21 +11,29 @@ pub fn delete(records: &mut [u8], tag: u16) -> u8
         return 20;
     }
     let n = layout::entries(records);
-    let mut node = [0u8; 4096];
+    if n <= 64 {
+        let mut few = [0u16; 64];
+        return delete_in(records, &mut few[..n], tag);
+    }
+    if n <= 512 {
+        let mut some = [0u16; 512];
+        return delete_in(records, &mut some[..n], tag);
+    }
     let mut row = [0u16; 4096];
-    delete_in(records, &mut node[..n], &mut row[..n], tag)
+    delete_in(records, &mut row[..n], tag)
 }
 
-// The same, with buffers lent for the table.
-fn delete_in(records: &mut [u8], node: &mut [u8], row: &mut [u16], tag: u16) -> u8
-    requires { ⌜ Ready (now records) (now node) (now row) ⌝ }
+// The same, with a buffer lent for the rows. The nodes are lent where they lie.
+fn delete_in(records: &mut [u8], row: &mut [u16], tag: u16) -> u8
+    requires { ⌜ Ready (now records) (now row) ⌝ }
     ensures { λ answer. ⌜ HostDeletes (now (records .entry)) tag answer (now (records .exit)) ⌝ }
 {
     let size = layout::size(records);
-    let tree = loading::load(records, node, row);
-    let d = deleting::delete(size, tree, node, row, tag);
+    let tree = loading::load(records, row);
+    let to = TABLE_AT + row.len();
+    let d = deleting::delete(size, tree, &mut records[TABLE_AT..to], row, tag);
     let answer = d.answer;
     let next = d.tree;
-    host::keep(records, size, answer, next, node, row);
+    host::keep(records, answer, next, row);
     answer
 }

@@ -18,7 +18,8 @@ use Rattle.soundness.specs.Judged.{Leaves}
 use Rattle.reads.specs.Reads.{ReadEnds, readAnswer, rowOfTag, sharersOfTag}
 use Rattle.reads.specs.Reads as queries
 use Rattle.reads.specs.Sizes.{same-number, same-bytes, same-sharers}
-use Rattle.layout.specs.Layout.{sizeAt, loaded, Fits}
+use Rattle.layout.specs.Layout.{sizeAt, nodesAt, loaded, Fits}
+use Rattle.layout.specs.Update.{loaded-size}
 use Rattle.host_read.specs.Reads.{HostReads, readTests, copyNumber, Copied}
 use Rattle.host.specs.Laws.{host-judged, as-loaded}
 
@@ -95,13 +96,13 @@ module _ (z : Records) (places : List ℕ) (tag r : ℕ) where
       record { numbered = e; left = (λ i. (c .filled i, c .told i)) ∙ rw (e, same-bytes h, same-sharers h) (rows-agree row′ out many p o l t) }
 
 -- On bytes
-module _ {b : List ℕ} {size : Size} {t : Tree} {node row : List ℕ} (f : Fits b) (e : size ≡ sizeAt b) (l : recordsOf (sizeAt b) t node row ≡ loaded b) where
-  pub read-host : (places : List ℕ) (tag r : ℕ) {n seen answer sharers : ℕ} {bytes out out′ : List ℕ} → ReadEnds (recordsOf size t node row) places tag r n bytes seen
+module _ {b : List ℕ} {size : Size} {t : Tree} {node row : List ℕ} (f : Fits b) (e : size ≡ sizeAt b) (l : recordsOf (sizeAt b) t (nodesAt b) row ≡ loaded b) where
+  pub read-host : (places : List ℕ) (tag r : ℕ) {n seen answer sharers : ℕ} {bytes out out′ : List ℕ} → ReadEnds (recordsOf size t node row) places tag r n bytes seen → node ≡ nodesAt b
       → Copied (size .width) n bytes seen out answer out′ sharers → HostReads b places tag r out answer (out′, sharers)
   unfolding copyNumber
-  read-host places tag r {n} {seen} {answer} {sharers} {bytes} {out} {out′} h c =
-      let k : ReadEnds (loaded b) places tag r n bytes seen = rw (sym (as-loaded b e l)) h in
-      let d : Copied (loaded b .size .width) n bytes seen out answer out′ sharers = rw (sym (as-loaded b e l)) c in
+  read-host places tag r {n} {seen} {answer} {sharers} {bytes} {out} {out′} h p c =
+      let k : ReadEnds (loaded b) places tag r n bytes seen = rw (sym (as-loaded b e p l)) h in
+      let d : Copied (loaded b .size .width) n bytes seen out answer out′ sharers = rw (loaded-size b ∙ sym e) c in
       host-judged f (record {
         sound = λ s. read-copied (loaded b) places tag r (k .sound s) d;
         unsound = λ g.

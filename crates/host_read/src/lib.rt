@@ -1,8 +1,9 @@
-// A read, the records being bytes. The table is loaded into buffers of its own.
+// A read, the records being bytes. The rows are loaded into a buffer of their own, as small as serves.
 ghost use mathlib.Core.Path.{_≡_};
 ghost use lib.ListN.{length};
 ghost use Rattle.host.specs.Host.{Ready};
 ghost use Rattle.host_read.specs.Reads.{HostReads, Copied};
+use layout::TABLE_AT;
 use measures::Row;
 use measures::Size;
 
@@ -22,24 +23,21 @@ pub fn read(
         return 20;
     }
     let n = layout::entries(records);
-    let mut node = [0u8; 4096];
+    if n <= 64 {
+        let mut few = [0u16; 64];
+        return read_in(records, &mut few[..n], places, tag, r, out, sharers);
+    }
+    if n <= 512 {
+        let mut some = [0u16; 512];
+        return read_in(records, &mut some[..n], places, tag, r, out, sharers);
+    }
     let mut row = [0u16; 4096];
-    read_in(
-        records,
-        &mut node[..n],
-        &mut row[..n],
-        places,
-        tag,
-        r,
-        out,
-        sharers,
-    )
+    read_in(records, &mut row[..n], places, tag, r, out, sharers)
 }
 
-// The same, with buffers lent for the table.
+// The same, with a buffer lent for the rows. The nodes are lent where they lie.
 fn read_in<'a>(
     records: &[u8],
-    node: &mut [u8],
     row: &mut [u16],
     places: &'a [u8],
     tag: u16,
@@ -47,17 +45,18 @@ fn read_in<'a>(
     out: &mut [u8],
     sharers: &mut usize,
 ) -> u8
-    requires { ⌜ Ready (now records) (now node) (now row) ⌝ }
+    requires { ⌜ Ready (now records) (now row) ⌝ }
     ensures { λ answer. ⌜ HostReads (now (records .entry)) (now (places .entry)) tag (r .0) (now (out .entry)) answer (now (out .exit), now (sharers .exit)) ⌝ }
 {
     let size = layout::size(records);
-    let tree = loading::load(records, node, row);
+    let tree = loading::load(records, row);
+    let to = TABLE_AT + row.len();
     let mut answer: u8 = 0;
     let mut seen: usize = 0;
     let bytes = queries::read(
         size,
         tree,
-        node,
+        &records[TABLE_AT..to],
         row,
         places,
         tag,

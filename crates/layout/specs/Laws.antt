@@ -10,7 +10,7 @@ use Rattle.trees.specs.Trees.{treeOf}
 use Rattle.records.specs.Records.{Records, recordsOf}
 use Rattle.laying.specs.Laid.{laid, Lays, pairs, numbers}
 use Rattle.laying.specs.Laws.{lays-then, lays-as, pairs-size}
-use Rattle.layout.specs.Layout.{tableAt, entries, recordsSize, treeBytes, tableBytes, stored, sizeAt, treeAt, loaded}
+use Rattle.layout.specs.Layout.{tableAt, entries, recordsSize, treeBytes, tableBytes, stored, sizeAt, treeAt, nodesAt, loaded}
 
 -- Lengths
 
@@ -58,12 +58,14 @@ size-same p q r = λ i. record { rows = p i; width = q i; places = r i }
 pub tree-same : {s p g s′ p′ g′ : List ℕ} → s ≡ s′ → p ≡ p′ → g ≡ g′ → treeOf s g p ≡ treeOf s′ g′ p′
 tree-same e f h = λ i. treeOf (e i) (h i) (f i)
 
--- the table, where the tree is read by itself
-pub load-same : (b : List ℕ) {n : ℕ} {t : Tree} {node row : List ℕ} → n ≡ entries (sizeAt b) → length b ≡ recordsSize (sizeAt b)
-    → t ≡ treeAt b → node ≡ take ((tableAt + n) - tableAt) (drop tableAt b) → row ≡ numbers (take (length b - (tableAt + n)) (drop (tableAt + n) b))
-    → recordsOf (sizeAt b) t node row ≡ loaded b
+-- the rows, where the tree is read by itself and the nodes lie where they are
+pub load-same : (b : List ℕ) {n : ℕ} {t : Tree} {row : List ℕ} → n ≡ entries (sizeAt b) → length b ≡ recordsSize (sizeAt b)
+    → t ≡ treeAt b → row ≡ numbers (take (length b - (tableAt + n)) (drop (tableAt + n) b)) → recordsOf (sizeAt b) t (nodesAt b) row ≡ loaded b
 unfolding loaded
-load-same b {n} e l t d r =
-    let m : (tableAt + n) - tableAt ≡ n = omega arith in
+load-same b {n} e l t r =
     let k : length b - (tableAt + entries (sizeAt b)) ≡ 2 * entries (sizeAt b) = omega (arith, l) in
-    rw (t, d, r, m, e, k)
+    rw (t, r, e, k)
+
+-- the nodes as a part that is lent
+pub nodes-part : (b : List ℕ) {n : ℕ} → n ≡ entries (sizeAt b) → take ((tableAt + n) - tableAt) (drop tableAt b) ≡ nodesAt b
+nodes-part b {n} e = let m : (tableAt + n) - tableAt ≡ n = omega arith in rw (m, e)

@@ -54,8 +54,15 @@ part from n b = take n (drop from b)
 abbrev pub treeAt : List ℕ → Tree
 treeAt b = treeOf (part statesAt 128 b) (numbers (part tagsAt 256 b)) (part parentsAt 128 b)
 
+-- the two halves of the table; the nodes are bytes as they lie there
+abbrev pub nodesAt : List ℕ → List ℕ
+nodesAt b = part tableAt (entries (sizeAt b)) b
+
+abbrev pub rowsAt : List ℕ → List ℕ
+rowsAt b = numbers (part (tableAt + entries (sizeAt b)) (2 * entries (sizeAt b)) b)
+
 unfoldable pub loaded : List ℕ → Records
-loaded b = recordsOf (sizeAt b) (treeAt b) (part tableAt (entries (sizeAt b)) b) (numbers (part (tableAt + entries (sizeAt b)) (2 * entries (sizeAt b)) b))
+loaded b = recordsOf (sizeAt b) (treeAt b) (nodesAt b) (rowsAt b)
 
 -- the bytes are as many as their measures say
 pub record Fits (b : List ℕ) : Type 0 where

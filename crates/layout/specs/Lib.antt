@@ -1,3 +1,4 @@
 pub mod Layout
 pub mod Laws
 pub mod Back
+pub mod Update

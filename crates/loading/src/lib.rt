@@ -2,7 +2,7 @@
 ghost use mathlib.Core.Path.{_≡_};
 ghost use lib.ListN.{length};
 ghost use Rattle.records.specs.Records.{recordsOf};
-ghost use Rattle.layout.specs.Layout.{sizeAt, treeAt, loaded, entries, Fits};
+ghost use Rattle.layout.specs.Layout.{sizeAt, treeAt, nodesAt, loaded, entries, Fits};
 use layout::PARENTS_AT;
 use layout::STATES_AT;
 use layout::TABLE_AT;
@@ -23,13 +23,12 @@ fn load_tree(records: &[u8]) -> Tree
     Tree { state, tag, parent }
 }
 
-// The tree, and the two halves of the table, whose lengths are the right ones.
-pub fn load(records: &[u8], node: &mut [u8], row: &mut [u16]) -> Tree
-    requires { ⌜ Fits (now records) × (length (now node) ≡ entries (sizeAt (now records))) × (length (now row) ≡ entries (sizeAt (now records))) ⌝ }
-    ensures { λ t. ⌜ recordsOf (sizeAt (now (records .entry))) t (now (node .exit)) (now (row .exit)) ≡ loaded (now (records .entry)) ⌝ }
+// The tree and the rows, whose number is the right one. The nodes are bytes, and stay where they lie.
+pub fn load(records: &[u8], row: &mut [u16]) -> Tree
+    requires { ⌜ Fits (now records) × (length (now row) ≡ entries (sizeAt (now records))) ⌝ }
+    ensures { λ t. ⌜ recordsOf (sizeAt (now (records .entry))) t (nodesAt (now (records .entry))) (now (row .exit)) ≡ loaded (now (records .entry)) ⌝ }
 {
-    let rows = TABLE_AT + node.len();
-    placing::fill(node, &records[TABLE_AT..rows]);
+    let rows = TABLE_AT + row.len();
     laying::load_numbers(&records[rows..], row);
     load_tree(records)
 }

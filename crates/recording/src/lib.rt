@@ -6,7 +6,9 @@ ghost use lib.ListN.{length};
 ghost use Rattle.measures.specs.Measures.{Within};
 ghost use Rattle.records.specs.Records.{recordsOf};
 ghost use Rattle.laying.specs.Laid.{Lays};
-ghost use Rattle.layout.specs.Layout.{treeBytes, tableBytes, stored, entries, recordsSize};
+ghost use Rattle.layout.specs.Layout.{treeBytes, tableBytes, stored, entries, recordsSize, sizeAt, nodesAt, rowsAt, Fits};
+use layout::STATES_AT;
+use layout::TABLE_AT;
 use measures::Size;
 use trees::Tree;
 
@@ -30,6 +32,24 @@ fn lay_tree(records: &mut [u8], at: usize, tree: Tree) -> usize
     let a = laying::lay(records, at, &tree.state);
     let b = laying::lay(records, a, &tree.parent);
     laying::lay_numbers(records, b, &tree.tag)
+}
+
+// The tree anew; all else is as it was.
+pub fn renew_tree(records: &mut [u8], tree: Tree)
+    requires { ⌜ Fits (now records) ⌝ }
+    ensures { λ r. ⌜ now (records .exit) ≡ stored (recordsOf (sizeAt (now (records .entry))) tree (nodesAt (now (records .entry))) (rowsAt (now (records .entry)))) ⌝ }
+{
+    lay_tree(records, STATES_AT, tree);
+}
+
+// The tree and the rows anew; the measures and the nodes are as they lie there.
+pub fn renew(records: &mut [u8], tree: Tree, row: &[u16])
+    requires { ⌜ Fits (now records) × (length (now row) ≡ entries (sizeAt (now records))) ⌝ }
+    ensures { λ r. ⌜ now (records .exit) ≡ stored (recordsOf (sizeAt (now (records .entry))) tree (nodesAt (now (records .entry))) (now (row .entry))) ⌝ }
+{
+    lay_tree(records, STATES_AT, tree);
+    let rows = TABLE_AT + row.len();
+    laying::lay_numbers(records, rows, row);
 }
 
 // The table.

@@ -1,14 +1,10 @@
--- `host_border::border` meets its contract. Assumes nothing.
-use borrow.Author.Needs.{needs}
+-- `host_border::border` meets its contract: each of the buffers is long enough where it is used. Assumes nothing.
 use mathlib.Core.Path.{refl}
 use Rattle.basics.specs.Decide.{passed, failed}
-use Rattle.layout.specs.Layout.{Fits}
 use Rattle.host.specs.Laws.{host-unfit, ready, front}
+use borrow.Author.Needs.{needs}
 use Rattle.host_border.proofs.border.Statement.{statement}
 use Rattle.host_border.proofs.border.Tie as tie
-
-fit : (c : tie.Else1) → Fits (c .before .before .before .before .before .before .before .args .records .now)
-fit c = passed (c .before .fits2 .result) (c .before .fits2 .ensures) (c .if1 .left)
 
 fits-requires : tie.Need-fits-requires
 fits-requires c κs = search needs
@@ -20,22 +16,19 @@ returns : tie.Need-returns
 returns c = host-unfit (failed (c .before .fits2 .result) (c .before .fits2 .ensures) (c .if1 .taken)) (record { numbered = refl; counted = refl; left = refl })
 
 entries-requires : tie.Need-entries-requires
-entries-requires c κs = fit (c .before)
+entries-requires c κs = passed (c .before .before .fits2 .result) (c .before .before .fits2 .ensures) (c .before .if1 .left)
 
-array-borrow-prefix-node : tie.Need-array-borrow-prefix-node
-array-borrow-prefix-node c = search needs
+array-borrow-prefix-few : tie.Need-array-borrow-prefix-few
+array-borrow-prefix-few c = search needs
 
 slice-aggregate-border-in : tie.Need-slice-aggregate-border-in
-slice-aggregate-border-in c = front _ (c .before .before .entries .ensures .1) refl
-
-array-borrow-prefix-row : tie.Need-array-borrow-prefix-row
-array-borrow-prefix-row c = search needs
-
-slice-aggregate-border-in-2 : tie.Need-slice-aggregate-border-in-2
-slice-aggregate-border-in-2 c = front _ (c .before .before .before .entries .ensures .1) refl
+slice-aggregate-border-in c = front _ (c .before .before .if2 .taken)
 
 border-in-requires : tie.Need-border-in-requires
-border-in-requires c κs = let e = c .before .before .before .before .before in ready _ _ (fit (e .before .before)) (e .entries .ensures) refl refl
+border-in-requires c κs = let t = c .before .before .before .before in
+    let e = t .before in
+    let f = e .before .before in
+    ready _ (passed (f .before .fits2 .result) (f .before .fits2 .ensures) (f .if1 .left)) (e .entries .ensures .0) (t .if2 .taken)
 
 same-length-2 : tie.Need-same-length-2
 same-length-2 c = search needs
@@ -46,6 +39,47 @@ same-length-3 c = search needs
 returns-2 : tie.Need-returns-2
 returns-2 c = search needs
 
+array-borrow-prefix-some : tie.Need-array-borrow-prefix-some
+array-borrow-prefix-some c = search needs
+
+slice-aggregate-border-in-2 : tie.Need-slice-aggregate-border-in-2
+slice-aggregate-border-in-2 c = front _ (c .before .before .if3 .taken)
+
+border-in-requires-2 : tie.Need-border-in-requires-2
+border-in-requires-2 c κs = let t = c .before .before .before .before in
+    let e = t .before .before in
+    let f = e .before .before in
+    ready _ (passed (f .before .fits2 .result) (f .before .fits2 .ensures) (f .if1 .left)) (e .entries .ensures .0) (t .if3 .taken)
+
+same-length-4 : tie.Need-same-length-4
+same-length-4 c = search needs
+
+same-length-5 : tie.Need-same-length-5
+same-length-5 c = search needs
+
+returns-3 : tie.Need-returns-3
+returns-3 c = search needs
+
+array-borrow-prefix-row : tie.Need-array-borrow-prefix-row
+array-borrow-prefix-row c = search needs
+
+slice-aggregate-border-in-3 : tie.Need-slice-aggregate-border-in-3
+slice-aggregate-border-in-3 c = front _ (c .before .before .before .before .entries .ensures .1)
+
+border-in-requires-3 : tie.Need-border-in-requires-3
+border-in-requires-3 c κs = let e = c .before .before .before .before .before .before in
+    let f = e .before .before in
+    ready _ (passed (f .before .fits2 .result) (f .before .fits2 .ensures) (f .if1 .left)) (e .entries .ensures .0) (e .entries .ensures .1)
+
+same-length-6 : tie.Need-same-length-6
+same-length-6 c = search needs
+
+same-length-7 : tie.Need-same-length-7
+same-length-7 c = search needs
+
+returns-4 : tie.Need-returns-4
+returns-4 c = search needs
+
 pub border-spec : {M : Type 1} → statement M
 border-spec =
     tie.close
@@ -54,11 +88,21 @@ border-spec =
     same-length
     returns
     entries-requires
-    array-borrow-prefix-node
+    array-borrow-prefix-few
     slice-aggregate-border-in
-    array-borrow-prefix-row
-    slice-aggregate-border-in-2
     border-in-requires
     same-length-2
     same-length-3
-    returns-2)
+    returns-2
+    array-borrow-prefix-some
+    slice-aggregate-border-in-2
+    border-in-requires-2
+    same-length-4
+    same-length-5
+    returns-3
+    array-borrow-prefix-row
+    slice-aggregate-border-in-3
+    border-in-requires-3
+    same-length-6
+    same-length-7
+    returns-4)

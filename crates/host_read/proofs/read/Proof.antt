@@ -1,8 +1,8 @@
--- `host_read::read` meets its contract. Assumes nothing.
-use borrow.Author.Needs.{needs}
+-- `host_read::read` meets its contract: each of the buffers is long enough where it is used. Assumes nothing.
 use mathlib.Core.Path.{refl}
 use Rattle.basics.specs.Decide.{passed, failed}
 use Rattle.host.specs.Laws.{host-unfit, ready, front}
+use borrow.Author.Needs.{needs}
 use Rattle.host_read.proofs.read.Statement.{statement}
 use Rattle.host_read.proofs.read.Tie as tie
 
@@ -10,36 +10,60 @@ fits-requires : tie.Need-fits-requires
 fits-requires c κs = search needs
 
 returns : tie.Need-returns
-returns c =
-    let out = c .before .before .before .before .before .args .out .now in
-    host-unfit (failed (c .before .fits2 .result) (c .before .fits2 .ensures) (c .if1 .taken)) (refl, λ i. (out, 0))
+returns c = host-unfit (failed (c .before .fits2 .result) (c .before .fits2 .ensures) (c .if1 .taken)) (refl, refl)
 
 entries-requires : tie.Need-entries-requires
 entries-requires c κs = passed (c .before .fits2 .result) (c .before .fits2 .ensures) (c .if1 .left)
 
-array-borrow-prefix-node : tie.Need-array-borrow-prefix-node
-array-borrow-prefix-node c = search needs
+array-borrow-prefix-few : tie.Need-array-borrow-prefix-few
+array-borrow-prefix-few c = search needs
 
 slice-aggregate-read-in : tie.Need-slice-aggregate-read-in
-slice-aggregate-read-in c = front _ (c .before .entries .ensures .1) refl
-
-array-borrow-prefix-row : tie.Need-array-borrow-prefix-row
-array-borrow-prefix-row c = search needs
-
-slice-aggregate-read-in-2 : tie.Need-slice-aggregate-read-in-2
-slice-aggregate-read-in-2 c = front _ (c .before .before .entries .ensures .1) refl
+slice-aggregate-read-in c = front _ (c .before .if2 .taken)
 
 read-in-requires : tie.Need-read-in-requires
-read-in-requires c κs =
-    let n = c .before .before .before .before in
-    let e = n .before in
-    ready _ _ (passed (e .before .fits2 .result) (e .before .fits2 .ensures) (e .if1 .left)) (n .entries .ensures) refl refl
+read-in-requires c κs = let t = c .before .before .before in
+    let e = t .before in
+    ready _ (passed (e .before .before .fits2 .result) (e .before .before .fits2 .ensures) (e .before .if1 .left)) (e .entries .ensures .0) (t .if2 .taken)
 
 same-length : tie.Need-same-length
 same-length c = search needs
 
 returns-2 : tie.Need-returns-2
 returns-2 c = search needs
+
+array-borrow-prefix-some : tie.Need-array-borrow-prefix-some
+array-borrow-prefix-some c = search needs
+
+slice-aggregate-read-in-2 : tie.Need-slice-aggregate-read-in-2
+slice-aggregate-read-in-2 c = front _ (c .before .if3 .taken)
+
+read-in-requires-2 : tie.Need-read-in-requires-2
+read-in-requires-2 c κs = let t = c .before .before .before in
+    let e = t .before .before in
+    ready _ (passed (e .before .before .fits2 .result) (e .before .before .fits2 .ensures) (e .before .if1 .left)) (e .entries .ensures .0) (t .if3 .taken)
+
+same-length-2 : tie.Need-same-length-2
+same-length-2 c = search needs
+
+returns-3 : tie.Need-returns-3
+returns-3 c = search needs
+
+array-borrow-prefix-row : tie.Need-array-borrow-prefix-row
+array-borrow-prefix-row c = search needs
+
+slice-aggregate-read-in-3 : tie.Need-slice-aggregate-read-in-3
+slice-aggregate-read-in-3 c = front _ (c .before .before .before .entries .ensures .1)
+
+read-in-requires-3 : tie.Need-read-in-requires-3
+read-in-requires-3 c κs = let e = c .before .before .before .before .before in
+    ready _ (passed (e .before .before .fits2 .result) (e .before .before .fits2 .ensures) (e .before .if1 .left)) (e .entries .ensures .0) (e .entries .ensures .1)
+
+same-length-3 : tie.Need-same-length-3
+same-length-3 c = search needs
+
+returns-4 : tie.Need-returns-4
+returns-4 c = search needs
 
 pub read-spec : {M : Type 1} → statement M
 read-spec =
@@ -48,10 +72,18 @@ read-spec =
     fits-requires
     returns
     entries-requires
-    array-borrow-prefix-node
+    array-borrow-prefix-few
     slice-aggregate-read-in
-    array-borrow-prefix-row
-    slice-aggregate-read-in-2
     read-in-requires
     same-length
-    returns-2)
+    returns-2
+    array-borrow-prefix-some
+    slice-aggregate-read-in-2
+    read-in-requires-2
+    same-length-2
+    returns-3
+    array-borrow-prefix-row
+    slice-aggregate-read-in-3
+    read-in-requires-3
+    same-length-3
+    returns-4)

@@ -1,7 +1,14 @@
 -- `host_write::write_in` meets its contract. Assumes nothing.
-use borrow.Author.Needs.{needs}
+use Prim.Native.Nat.{ℕ, _<_}
+use mathlib.Core.Path.{_≡_, sym, _∙_, ap}
 use native.Mathlib.Omega.{arith}
+use lib.ListN.{length}
+use Rattle.basics.specs.Decide.{at}
+use Rattle.layout.specs.Layout.{entries, sizeAt}
+use Rattle.layout.specs.Laws.{nodes-part}
+use Rattle.layout.specs.Update.{nodes-laid-anew, nodes-lent}
 use Rattle.host_write.specs.Laws.{write-host}
+use borrow.Author.Needs.{needs}
 use Rattle.host_write.proofs.write_in.Statement.{statement}
 use Rattle.host_write.proofs.write_in.Tie as tie
 
@@ -11,11 +18,45 @@ size-requires c κs = search needs
 load-requires : tie.Need-load-requires
 load-requires c κs = search needs
 
+add-to : tie.Need-add-to
+add-to c = search needs
+
+sub-write : tie.Need-sub-write
+sub-write c = search needs
+
+part-write-start : tie.Need-part-write-start
+part-write-start c = search needs
+
+part-write-end : tie.Need-part-write-end
+part-write-end c = search needs
+
 write-requires : tie.Need-write-requires
 write-requires c κs = search needs
 
+-- each byte of the records is below 256
+low : (c : tie.After-slice-known) → (i : ℕ) → at (c .before .args .records .now) i < 256
+low c i = omega (arith, c .slice-known .given i)
+
+-- the nodes came back as many as they were
+long : (c : tie.After-slice-known5) → length (c .before .before .write .last .1 .1 .0) ≡ entries (sizeAt (c .before .before .before .before .before .before .before .before .before .before .before .before .before .before .before .before .before .args .records .now))
+long c = omega (arith, c .before .before .before .before .before .before .before .before .before .before .before .before .before .before .before .before .before .pre .rows)
+
+-- and so did the rows
+rows-long : (c : tie.After-slice-known6) → length (c .before .before .before .before .write .last .1 .1 .1 .0) ≡ entries (sizeAt (c .before .before .before .before .before .before .before .before .before .before .before .before .before .before .before .before .before .before .before .args .records .now))
+rows-long c = omega (arith, c .before .before .before .before .before .before .before .before .before .before .before .before .before .before .before .before .before .before .before .pre .rows)
+
 keep-requires : tie.Need-keep-requires
-keep-requires c κs = let y = c .before .before .before .before .before .before .before .before .before .before .before .before .before .before .before .before .before .before .before .before .before .before .before .before .before .before .before .before .before .pre in (record { fits = y .fits; nodes = omega (arith, y .nodes); rows = omega (arith, y .rows) }, c .before .before .before .before .before .before .before .before .before .before .before .before .before .before .before .before .before .before .before .before .before .before .size .ensures)
+keep-requires c κs = let h = c .before .before .before .before .before .before .before in
+    let d = h .before .before in
+    let l = d .before .before .before .before .before .before in
+    let z = l .before .before .before in
+    let k = z .before .before .before .before .before in
+    let s = k .before in
+    let y = s .pre in
+    let m = long h in
+    let r = nodes-laid-anew (s .args .records .now) (y .fits) (low k) (d .write .last .1 .1 .0) m
+    (nodes-lent (s .args .records .now) (d .write .last .1 .1 .0) {k = length (l .load .last .1 .0)} (omega (arith, m, y .rows)) (omega (arith, m, y .fits .long))) in
+    record { fits = r .fits; rows = rows-long (c .before .before .before .before .before) ∙ ap entries (sym (r .size)) }
 
 same-length : tie.Need-same-length
 same-length c = search needs
@@ -26,11 +67,19 @@ same-length-2 c = search needs
 same-length-3 : tie.Need-same-length-3
 same-length-3 c = search needs
 
-same-length-4 : tie.Need-same-length-4
-same-length-4 c = search needs
-
 returns : tie.Need-returns
-returns c = write-host (c .before .before .before .before .before .before .before .before .before .before .before .before .before .before .before .before .before .before .before .before .before .before .before .before .before .before .before .before .before .before .before .before .pre .fits) (c .before .before .before .before .before .before .before .before .before .before .before .before .before .before .before .before .before .before .before .before .before .before .before .before .before .size .ensures) (c .before .before .before .before .before .before .before .before .before .before .before .before .before .before .before .before .before .before .before .before .before .load .ensures) _ _ _ _ (c .before .before .before .before .before .before .before .before .before .before .before .before .before .write .ensures) (c .before .before .keep .ensures)
+returns c = let p = c .before .before in
+    let h = p .before .before .before .before .before .before .before .before in
+    let d = h .before .before in
+    let l = d .before .before .before .before .before .before in
+    let z = l .before .before .before in
+    let k = z .before .before .before .before .before in
+    let s = k .before in
+    let y = s .pre in
+    let m = long h in
+    let r = nodes-laid-anew (s .args .records .now) (y .fits) (low k) (d .write .last .1 .1 .0) m
+    (nodes-lent (s .args .records .now) (d .write .last .1 .1 .0) {k = length (l .load .last .1 .0)} (omega (arith, m, y .rows)) (omega (arith, m, y .fits .long))) in
+    write-host (y .fits) (low k) (z .size .ensures) (l .load .ensures) _ _ _ _ (d .write .ensures) (nodes-part (s .args .records .now) {n = length (l .load .last .1 .0)} (omega (arith, y .rows))) r (p .keep .ensures)
 
 pub write-in-spec : {M : Type 1} → statement M
 write-in-spec =
@@ -38,10 +87,13 @@ write-in-spec =
     (tie.spec
     size-requires
     load-requires
+    add-to
+    sub-write
+    part-write-start
+    part-write-end
     write-requires
     keep-requires
     same-length
     same-length-2
     same-length-3
-    same-length-4
     returns)
