@@ -20,17 +20,22 @@ fn remove(size: Size, tree: Tree, node: &mut [u8], row: &mut [u16], marks: &[u8]
     ensures { λ t. ⌜ left t (now (node .exit)) (now (row .exit)) ≡ deletedAt (recordsOf size tree (now (node .entry)) (now (row .entry))) v ⌝ }
 {
     let rows = size.rows;
+    let gone = pruning::ghosted(tree, v);
+    let mut list = [0u8; 128];
+    let k = listing::list(&tree.state, &mut list);
     freeing::free_alone(
         &tree.state,
         &tree.tag,
         &tree.parent,
+        &list[..k],
+        &gone.state,
         rows,
         node,
         row,
         marks,
         v,
     );
-    let stand = pruning::pruned(pruning::ghosted(tree, v), v);
+    let stand = pruning::pruned(gone, v);
     let next = stand.tree;
     let x = stand.node;
     pruning::settled(next, x, node)
@@ -64,10 +69,18 @@ fn delete_marked(
     }
 }
 
-// Refusals: 20, 5, 21. A refusal changes nothing.
+// Refusals: 20, 5, 21. A refusal changes nothing. There are as many marks as the rows call for.
 pub fn delete(size: Size, tree: Tree, node: &mut [u8], row: &mut [u16], tag: u16) -> Removed
     ensures { λ w. ⌜ DeleteEnds (recordsOf size tree (now (node .entry)) (now (row .entry))) tag (w .answer) (left (w .tree) (now (node .exit)) (now (row .exit))) ⌝ }
 {
+    if size.rows <= 16 {
+        let mut few = [0u8; 256];
+        return delete_marked(size, tree, node, row, &mut few, tag);
+    }
+    if size.rows <= 128 {
+        let mut some = [0u8; 2048];
+        return delete_marked(size, tree, node, row, &mut some, tag);
+    }
     let mut marks = [0u8; 16384];
     delete_marked(size, tree, node, row, &mut marks, tag)
 }

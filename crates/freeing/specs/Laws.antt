@@ -10,7 +10,7 @@ use lib.ListN.{length, set, length-set, List·getD-eq-default}
 use lib.Seq.{getD-set-same, getD-set-other}
 use Rattle.basics.specs.Decide.{at, decides-false}
 use Rattle.trees.specs.declared.Tree.{Tree}
-use Rattle.trees.specs.Trees.{Table, InUse, Alive}
+use Rattle.trees.specs.Trees.{Table, InUse, Alive, Snapshot}
 use Rattle.trees.specs.Reading.{place}
 use Rattle.reading.specs.Reads.{place-reads, reads-place}
 use Rattle.sharing.specs.Laws.{shared-decides}
@@ -18,7 +18,8 @@ use Rattle.table.specs.Rules.{Judging, Meets}
 use Rattle.table.specs.Laws.{meets-reads, reads-meets}
 use Rattle.removal.specs.Removal.{lonely, Freed}
 use Rattle.removal.specs.FreeLonely.{tested, lonely-of, lonely-yes, lonely-taken}
-use Rattle.freeing.specs.Freeing.{MeetsAlone, Asking}
+use Rattle.asking.specs.Asking.{MeetsAlone, Asking}
+use Rattle.affecting.specs.Affected.{Affected}
 
 -- entries below i are free if they are lonely, and the others are as they were
 pub record FreedTo (t : Tree) (e : Table) (v i : ℕ) (node row : List ℕ) : Type 0 where
@@ -78,7 +79,10 @@ module _ (t : Tree) (e : Table) (v : ℕ) where
 living : (t : Tree) (n : ℕ) → Alive t n → InUse t n
 living t n a = (a .0, λ x. omega (arith, a .1))
 
-module _ (t : Tree) (e : Table) (marks : List ℕ) (h : Judging t e marks) (v : ℕ) (u : InUse t v) (i : ℕ) (l : i < length (e .node)) where
+module _ (t : Tree) (e : Table) (marks : List ℕ) (h : Judging t e marks) (v : ℕ) (w : Snapshot t v) (i : ℕ) (l : i < length (e .node)) where
+  used-node : InUse t v
+  used-node = living t v (w .1)
+
   module _ (z : at (e .node) i ≢ 0) where
     low : at (e .row) i < e .rows
     low = h .excepting .named i l z .1
@@ -90,11 +94,15 @@ module _ (t : Tree) (e : Table) (marks : List ℕ) (h : Judging t e marks) (v : 
       λ p. reads-meets t e marks h p low (l, refl, refl) x (place-reads t (h .fitting .linked) e n (at (e .row) i) x),
     )
 
+  pub node-low : at (e .node) i < 128
+  node-low = by-cases (ℕ-discrete (at (e .node) i) 0) (λ z. omega arith) (λ z. h .excepting .named i l z .0 .0)
+
   -- what the question asks
   pub asking : (g r : ℕ) → g ≡ at (e .node) i → r ≡ at (e .row) i → Asking t marks v g r
   asking g r a b = record {
     linked = h .fitting .linked;
-    used = u;
+    used = used-node;
+    node = omega (arith, a, node-low);
     row = λ z. let m = low (λ x. z (a ∙ x)) in record { row = omega (arith, h .fitting .few, b, m); room = omega (arith, h .marked .room, b, m) };
   }
 
@@ -102,7 +110,7 @@ module _ (t : Tree) (e : Table) (marks : List ℕ) (h : Judging t e marks) (v : 
   pub alone-lonely : MeetsAlone t marks v (at (e .node) i) (at (e .row) i) → lonely t e v i ≡ true
   alone-lonely m =
       let z = m .below in
-      let p = meets-place z v u .0 (m .meets) in
+      let p = meets-place z v used-node .0 (m .meets) in
       lonely-yes t e v i z p (decides-false (shared-decides t e v (at (e .row) i)) (λ (n, a, x, q). m .alone (n, (a, x, meets-place z n (living t n a) .1 (q ∙ p)))))
 
   pub lonely-alone : lonely t e v i ≡ true → MeetsAlone t marks v (at (e .node) i) (at (e .row) i)
@@ -111,10 +119,14 @@ module _ (t : Tree) (e : Table) (marks : List ℕ) (h : Judging t e marks) (v : 
       let (p, s) = lonely-of t e v i x in
       record {
         below = z;
-        meets = meets-place z v u .1 p;
+        meets = meets-place z v used-node .1 p;
         alone = λ (n, (a, y, m)). s (n, a, y, meets-place z n (living t n a) .0 m ∙ sym p);
       }
 
   -- an entry that the version at node v does not alone meet is not lonely
   pub alone-not : (MeetsAlone t marks v (at (e .node) i) (at (e .row) i) → ⊥) → lonely t e v i ≡ false
   alone-not f = tested (lonely t e v i) (λ x. absurd (f (lonely-alone x))) (λ x. x)
+
+  -- nor is one of a node that is not affected
+  pub unaffected-not : (xs : List ℕ) → Affected t v xs → at xs (at (e .node) i) ≡ 0 → lonely t e v i ≡ false
+  unaffected-not xs a z = alone-not (λ m. a .all marks (at (e .node) i) (at (e .row) i) node-low m z)

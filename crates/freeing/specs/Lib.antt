@@ -1,2 +1,1 @@
-pub mod Freeing
 pub mod Laws

@@ -1,110 +1,98 @@
 // Freeing what only one version reads, entry by entry, with a mark for each node and row that an entry names.
-ghost use Prim.Native.Nat.{_<_};
-ghost use Rattle.basics.specs.Decide.{Decides};
-ghost use Rattle.trees.specs.Trees.{treeOf, tableOf, InUse};
-ghost use Rattle.table.specs.Rules.{Seeking, Judging};
+ghost use mathlib.Core.Path.{_≡_};
+ghost use mathlib.Core.Bool.{true};
+ghost use Rattle.trees.specs.Trees.{treeOf, tableOf, Snapshot};
+ghost use Rattle.trees.specs.Rules.{States};
+ghost use Rattle.listing.specs.Listed.{Listed};
+ghost use Rattle.table.specs.Rules.{Judging, Nodes};
+ghost use Rattle.asking.specs.Asking.{Childless};
+ghost use Rattle.affecting.specs.Affected.{Affected};
 ghost use Rattle.removal.specs.Removal.{Freed};
-ghost use Rattle.freeing.specs.Freeing.{Asking, OtherMeets, OthersMeet, MeetsAlone};
 use measures::Row;
 
-// Does a living version other than the one at node v, the one at node n, read node g's own row r?
-fn other_reads<'a>(
+// The entries that only the version at node v reads become free. Only those of affected nodes are asked. The marks are those of the table as it was.
+fn free_affected<'a>(
     state: &'a [u8; 128],
     tag: &'a [u16; 128],
     parent: &'a [u8; 128],
-    marks: &'a [u8],
-    n: usize,
-    v: usize,
-    g: usize,
-    r: Row,
-) -> bool
-    requires { ⌜ (n < 128) × Seeking (treeOf (now state) (now tag) (now parent)) (now marks) g (r .0) ⌝ }
-    ensures { λ b. ⌜ Decides b (OtherMeets (treeOf (now (state .entry)) (now (tag .entry)) (now (parent .entry))) (now (marks .entry)) v g (r .0) n) ⌝ }
-{
-    if n == v {
-        return false;
-    }
-    if state[n] != 1 {
-        return false;
-    }
-    if table::meets(state, tag, parent, marks, n, g, r) {
-        return true;
-    }
-    false
-}
-
-// Does any living version other than the one at node v read it?
-fn others_read<'a>(
-    state: &'a [u8; 128],
-    tag: &'a [u16; 128],
-    parent: &'a [u8; 128],
-    marks: &'a [u8],
-    v: usize,
-    g: usize,
-    r: Row,
-) -> bool
-    requires { ⌜ Seeking (treeOf (now state) (now tag) (now parent)) (now marks) g (r .0) ⌝ }
-    ensures { λ b. ⌜ Decides b (OthersMeet (treeOf (now (state .entry)) (now (tag .entry)) (now (parent .entry))) (now (marks .entry)) v g (r .0)) ⌝ }
-{
-    let mut n: usize = 0;
-    while n < 128 {
-        if other_reads(state, tag, parent, marks, n, v, g, r) {
-            return true;
-        }
-        n += 1;
-    }
-    false
-}
-
-// Does the version at node v read node g's own row r, and no other?
-fn alone<'a>(
-    state: &'a [u8; 128],
-    tag: &'a [u16; 128],
-    parent: &'a [u8; 128],
-    marks: &'a [u8],
-    v: usize,
-    g: usize,
-    r: Row,
-) -> bool
-    requires { ⌜ Asking (treeOf (now state) (now tag) (now parent)) (now marks) v g (r .0) ⌝ }
-    ensures { λ b. ⌜ Decides b (MeetsAlone (treeOf (now (state .entry)) (now (tag .entry)) (now (parent .entry))) (now (marks .entry)) v g (r .0)) ⌝ }
-{
-    if g == 0 {
-        return false;
-    }
-    if !table::meets(state, tag, parent, marks, v, g, r) {
-        return false;
-    }
-    if others_read(state, tag, parent, marks, v, g, r) {
-        return false;
-    }
-    true
-}
-
-// The entries that only the version at node v reads become free. The marks are those of the table as it was.
-pub fn free_alone<'a>(
-    state: &'a [u8; 128],
-    tag: &'a [u16; 128],
-    parent: &'a [u8; 128],
+    others: &'a [u8; 128],
+    first: &'a [u8; 128],
+    after: &'a [u8; 128],
+    affected: &'a [u8; 128],
+    leaf: bool,
     rows: usize,
     node: &mut [u8],
     row: &mut [u16],
     marks: &'a [u8],
     v: usize,
 )
-    requires { ⌜ InUse (treeOf (now state) (now tag) (now parent)) v
-        × Judging (treeOf (now state) (now tag) (now parent)) (tableOf rows (now node) (now row)) (now marks) ⌝ }
+    requires { ⌜ Snapshot (treeOf (now state) (now tag) (now parent)) v × Judging (treeOf (now state) (now tag) (now parent)) (tableOf rows (now node) (now row)) (now marks)
+        × Nodes (now first) × Nodes (now after) × Affected (treeOf (now state) (now tag) (now parent)) v (now affected)
+        × (leaf ≡ true → Childless (treeOf (now state) (now tag) (now parent)) v) ⌝ }
     ensures { λ x. ⌜ Freed (treeOf (now (state .entry)) (now (tag .entry)) (now (parent .entry))) (tableOf rows (now (node .entry)) (now (row .entry))) v
         (now (node .exit)) (now (row .exit)) ⌝ }
 {
     let mut i: usize = 0;
     while i < node.len() {
         let g = widen::byte(node[i]);
-        let r = Row(widen::pair(row[i]));
-        if alone(state, tag, parent, marks, v, g, r) {
-            node[i] = 0;
-            row[i] = 0;
+        if affected[g] != 0 {
+            let r = Row(widen::pair(row[i]));
+            if asking::alone(
+                state,
+                tag,
+                parent,
+                others,
+                first,
+                after,
+                marks,
+                v,
+                leaf,
+                g,
+                r,
+            ) {
+                node[i] = 0;
+                row[i] = 0;
+            }
         }
         i += 1;
     }
+}
+
+// The entries that only the version at node v reads become free. `others` are the states without v, of which only a guess is made.
+pub fn free_alone<'a>(
+    state: &'a [u8; 128],
+    tag: &'a [u16; 128],
+    parent: &'a [u8; 128],
+    used: &'a [u8],
+    others: &'a [u8; 128],
+    rows: usize,
+    node: &mut [u8],
+    row: &mut [u16],
+    marks: &'a [u8],
+    v: usize,
+)
+    requires { ⌜ States (treeOf (now state) (now tag) (now parent)) × Snapshot (treeOf (now state) (now tag) (now parent)) v × Listed (now state) (now used)
+        × Judging (treeOf (now state) (now tag) (now parent)) (tableOf rows (now node) (now row)) (now marks) ⌝ }
+    ensures { λ x. ⌜ Freed (treeOf (now (state .entry)) (now (tag .entry)) (now (parent .entry))) (tableOf rows (now (node .entry)) (now (row .entry))) v
+        (now (node .exit)) (now (row .exit)) ⌝ }
+{
+    let affected = affecting::affected(state, tag, parent, v);
+    let leaf = affecting::childless(state, tag, parent, v);
+    let near = nearing::near(state, tag, parent, used);
+    let kin = guessing::kin(state, tag, parent, used, &near);
+    free_affected(
+        state,
+        tag,
+        parent,
+        others,
+        &kin.first,
+        &kin.after,
+        &affected,
+        leaf,
+        rows,
+        node,
+        row,
+        marks,
+        v,
+    );
 }

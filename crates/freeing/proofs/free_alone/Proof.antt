@@ -1,120 +1,47 @@
--- `freeing::free_alone` meets its contract: the entries below i are done, the others as they were. Assumes nothing.
+-- `freeing::free_alone` meets its contract. Assumes nothing.
+use Rattle.basics.specs.Decide.{holds}
 use borrow.Author.Needs.{needs}
-use Prim.Native.Nat.{_<_, _-_}
-use mathlib.Core.Path.{sym, _∙_}
-use mathlib.Core.Logic.{⊎-elim}
-use native.Mathlib.Omega.{arith}
-use lib.ListN.{length}
-use Rattle.trees.specs.Trees.{treeOf, tableOf}
-use Rattle.freeing.specs.Laws.{FreedTo, freed-start, freed-next, freed-skip, freed-set, freed-end, asking, alone-lonely, alone-not}
-use Rattle.basics.specs.Decide.{holds, fails}
 use Rattle.freeing.proofs.free_alone.Statement.{statement}
 use Rattle.freeing.proofs.free_alone.Tie as tie
 
-abbrev Inv-loop : tie.InvT-loop
-Inv-loop state tag parent rows node₀ row₀ marks v i₀ node row i = FreedTo (treeOf state tag parent) (tableOf rows node₀ row₀) v i node row
+affected-requires : tie.Need-affected-requires
+affected-requires c κs = search needs
 
-abbrev μ-loop : tie.MeasureT-loop
-μ-loop state tag parent rows node₀ row₀ marks v i₀ node row i = length node₀ - i
+childless-requires : tie.Need-childless-requires
+childless-requires c κs = search needs
 
-loop-holds : tie.Need-loop-holds Inv-loop μ-loop
-loop-holds c = freed-start _ _ _
+near-requires : tie.Need-near-requires
+near-requires c κs = let p = c .before .before .before .before .before .before .pre in (λ n l. p .3 .fitting .linked .parent n, p .2)
 
-slice-read-byte : tie.Need-slice-read-byte Inv-loop μ-loop
-slice-read-byte c = search needs
+kin-requires : tie.Need-kin-requires
+kin-requires c κs = let p = c .before .before .before .before .before .before .before .before .pre in (λ n l. p .3 .fitting .linked .parent n, p .2)
 
-byte-requires : tie.Need-byte-requires Inv-loop μ-loop
-byte-requires c κs = search needs
+free-affected-requires : tie.Need-free-affected-requires
+free-affected-requires c κs =
+    let k = c .before .before .before .before .before .before in
+    let h = k .before .before .before in
+    let a = h .before in
+    let p = a .before .before .before .before .before .pre in
+    (p .1, p .3, k .kin .ensures .0, k .kin .ensures .1, a .affected .ensures, λ x. holds (h .childless .result) (h .childless .ensures) x)
 
-mul-pair : tie.Need-mul-pair Inv-loop μ-loop
-mul-pair c = search needs
+same-length : tie.Need-same-length
+same-length c = search needs
 
-slice-read-pair : tie.Need-slice-read-pair Inv-loop μ-loop
-slice-read-pair c =
-    let t = c .before .before .before in
-    let d = t .before .loop .inv in
-    omega (arith, t .loop-test .taken, d .nodes, d .rows, t .before .before .before .before .before .pre .1 .fitting .halves)
+same-length-2 : tie.Need-same-length-2
+same-length-2 c = search needs
 
-pair-requires : tie.Need-pair-requires Inv-loop μ-loop
-pair-requires c κs = search needs
-
-alone-requires : tie.Need-alone-requires Inv-loop μ-loop
-alone-requires c κs =
-    let w = c .before .before in
-    let t = w .before .before in
-    let d = t .before .loop .inv in
-    let p = t .before .before .before .before .before .pre in
-    let x = freed-next _ _ _ _ _ _ d in
-    asking _ _ _ (p .1) _ (p .0) (t .before .loop .i) (omega (arith, t .loop-test .taken, d .nodes)) _ _ (w .byte .ensures ∙ x .0) (c .pair .ensures ∙ x .1)
-
-slice-write-node : tie.Need-slice-write-node Inv-loop μ-loop
-slice-write-node c = search needs
-
-mul-row : tie.Need-mul-row Inv-loop μ-loop
-mul-row c = search needs
-
-slice-write-row : tie.Need-slice-write-row Inv-loop μ-loop
-slice-write-row c =
-    let t = c .before .before .before .before .before .before in
-    let d = t .before .loop .inv in
-    omega (arith, t .loop-test .taken, d .nodes, d .rows, t .before .before .before .before .before .pre .1 .fitting .halves)
-
-add-i : tie.Need-add-i Inv-loop μ-loop
-add-i c = search needs
-
-loop-less : tie.Need-loop-less Inv-loop μ-loop
-loop-less c =
-    let t = c .before .before .before .before .before .before in
-    omega (arith, t .loop-test .taken, t .before .loop .inv .nodes)
-
-loop-again : tie.Need-loop-again Inv-loop μ-loop
-loop-again c =
-    let a = c .before in
-    let k = a .before in
-    let w = k .before .before in
-    let t = w .before .before in
-    let d = t .before .loop .inv in
-    let s = t .before .before .before .before .before in
-    let p = s .pre in
-    let i = t .before .loop .i in
-    let x = freed-next _ _ _ _ _ _ d in
-    let l : i < length (s .args .node .now) = omega (arith, t .loop-test .taken, d .nodes) in
-    let r = rw (w .byte .ensures ∙ x .0, k .pair .ensures ∙ x .1) at (a .alone .ensures) in
-    ⊎-elim
-    (λ m. rw (m .1, m .2) (freed-set _ _ _ i _ _ d (t .loop-test .taken) (d .rows ∙ p .1 .fitting .halves ∙ sym (d .nodes)) (alone-lonely _ _ _ (p .1) _ (p .0) i l (holds (a .alone .result) r (m .0 .taken)))))
-    (λ m. rw (m .1, m .2) (freed-skip _ _ _ i _ _ d (alone-not _ _ _ (p .1) _ (p .0) i l (fails (a .alone .result) r (m .0 .left)))))
-    (c .if1 .came)
-
-same-length : tie.Need-same-length Inv-loop μ-loop
-same-length c = c .before .loop .inv .nodes
-
-same-length-2 : tie.Need-same-length-2 Inv-loop μ-loop
-same-length-2 c = c .before .loop .inv .rows
-
-returns : tie.Need-returns Inv-loop μ-loop
-returns c =
-    let d = c .before .loop .inv in
-    freed-end _ _ _ (c .before .loop .i) _ _ (omega (arith, c .loop-test .left, d .nodes)) d
+returns : tie.Need-returns
+returns c = search needs
 
 pub free-alone-spec : {M : Type 1} → statement M
 free-alone-spec =
     tie.close
     (tie.spec
-    Inv-loop
-    μ-loop
-    loop-holds
-    slice-read-byte
-    byte-requires
-    mul-pair
-    slice-read-pair
-    pair-requires
-    alone-requires
-    slice-write-node
-    mul-row
-    slice-write-row
-    add-i
-    loop-less
-    loop-again
+    affected-requires
+    childless-requires
+    near-requires
+    kin-requires
+    free-affected-requires
     same-length
     same-length-2
     returns)

@@ -1,13 +1,13 @@
--- `freeing::others_read` meets its contract: no other living version passed meets g. Assumes nothing.
+-- `asking::others_read` meets its contract: no other living version passed meets g. Assumes nothing.
 use borrow.Author.Needs.{needs}
 use Prim.Native.Nat.{ℕ, _≤_, _<_, _-_}
 use native.Mathlib.Omega.{arith}
 use borrow.Author.Count.{below-more}
 use Rattle.trees.specs.Trees.{treeOf}
-use Rattle.freeing.specs.Freeing.{OtherMeets}
+use Rattle.asking.specs.Asking.{OtherMeets}
 use Rattle.basics.specs.Decide.{holds, fails}
-use Rattle.freeing.proofs.others_read.Statement.{statement}
-use Rattle.freeing.proofs.others_read.Tie as tie
+use Rattle.asking.proofs.others_read.Statement.{statement}
+use Rattle.asking.proofs.others_read.Tie as tie
 
 abbrev Inv-loop : tie.InvT-loop
 Inv-loop state tag parent marks v g r n₀ n = (n ≤ 128) × ((k : ℕ) → k < n → OtherMeets (treeOf state tag parent) marks v g (r .0) k → ⊥)

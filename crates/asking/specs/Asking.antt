@@ -1,9 +1,9 @@
 -- Who reads an entry, by marks: the version at one node, and others. Definitions only. Assumes nothing.
 use mathlib.Core.Logic.{_≢_}
 use mathlib.Core.List.{List}
-use Prim.Native.Nat.{ℕ}
+use Prim.Native.Nat.{ℕ, _<_}
 use Rattle.trees.specs.declared.Tree.{Tree}
-use Rattle.trees.specs.Trees.{InUse, Alive}
+use Rattle.trees.specs.Trees.{InUse, Alive, Child}
 use Rattle.trees.specs.Rules.{Linked}
 use Rattle.table.specs.Rules.{MarkedRow, Meets}
 
@@ -21,8 +21,13 @@ pub record MeetsAlone (t : Tree) (marks : List ℕ) (v g r : ℕ) : Type 0 where
   pub meets : Meets t marks r g v
   pub alone : OthersMeet t marks v g r → ⊥
 
--- a node v in use of a linked tree, and a row with marks, if g is a node other than 0
+-- a node v in use of a linked tree, a node g, and a row with marks, if g is other than 0
 pub record Asking (t : Tree) (marks : List ℕ) (v g r : ℕ) : Type 0 where
   pub linked : Linked t
   pub used : InUse t v
+  pub node : g < 128
   pub row : g ≢ 0 → MarkedRow marks r
+
+-- node v has no child
+abbrev pub Childless : Tree → ℕ → Type 0
+Childless t v = (c : ℕ) → Child t v c → ⊥

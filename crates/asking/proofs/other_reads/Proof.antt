@@ -1,8 +1,8 @@
--- `freeing::other_reads` meets its contract. Assumes nothing.
+-- `asking::other_reads` meets its contract. Assumes nothing.
 use borrow.Author.Needs.{needs}
 use Rattle.basics.specs.Decide.{holds, fails}
-use Rattle.freeing.proofs.other_reads.Statement.{statement}
-use Rattle.freeing.proofs.other_reads.Tie as tie
+use Rattle.asking.proofs.other_reads.Statement.{statement}
+use Rattle.asking.proofs.other_reads.Tie as tie
 
 returns : tie.Need-returns
 returns c = search needs
