@@ -6,7 +6,6 @@ use Prim.Native.Nat.{ℕ, _*_}
 use lib.Dec.{eqb}
 use lib.ListN.{length, replicate}
 use Rattle.measures.specs.declared.Size.{Size}
-use Rattle.measures.specs.Measures.{Within}
 use Rattle.records.specs.Records.{Records, recordsOf}
 use Rattle.answers.specs.Answers.{bad-size, bad-length}
 use Rattle.answers.specs.Tests.{Tests, refusal, inMeasure}
@@ -32,11 +31,3 @@ firstRecords z = recordsOf z firstTree (replicate (entries z) 0) (replicate (ent
 abbrev pub HostOpens : Size → List ℕ → List ℕ → ℕ → Lent → Type 0
 HostOpens z b places answer got =
     Leaves (refusal (openTests z (length b) (length places))) (b, places) (stored (firstRecords z), replicate (length places) 0) answer got
-
--- Measures and buffers that are opened
-pub record Openable (z : Size) (b places node row : List ℕ) : Type 0 where
-  pub within : Within z
-  pub records : length b ≡ recordsSize z
-  pub bytes : length places ≡ z .places * z .width
-  pub nodes : length node ≡ entries z
-  pub rows : length row ≡ entries z

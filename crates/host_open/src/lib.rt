@@ -1,6 +1,21 @@
-// An opening, the records being bytes. The table is made in buffers of its own.
-ghost use Rattle.host_open.specs.Opens.{HostOpens, Openable};
+// An opening, the records being bytes: they are laid where they are lent.
+ghost use mathlib.Core.Path.{_≡_};
+ghost use lib.ListN.{length};
+ghost use Rattle.measures.specs.Measures.{Within};
+ghost use Rattle.layout.specs.Layout.{recordsSize, stored};
+ghost use Rattle.host_open.specs.Opens.{HostOpens, firstRecords};
 use measures::Size;
+
+// The records of an opened store: its measures, node 0 alive, and zeros.
+fn lay_first(records: &mut [u8], size: Size)
+    requires { ⌜ Within size × (length (now records) ≡ recordsSize size) ⌝ }
+    ensures { λ r. ⌜ now (records .exit) ≡ stored (firstRecords size) ⌝ }
+{
+    let first = recording::head(size);
+    let a = laying::lay_numbers(records, 0, &first);
+    let b = laying::put(records, a, 1);
+    opening::clear(&mut records[b..]);
+}
 
 // A store of given measures. Refusals: 1, 2.
 pub fn open(records: &mut [u8], places: &mut [u8], size: Size) -> u8
@@ -15,25 +30,7 @@ pub fn open(records: &mut [u8], places: &mut [u8], size: Size) -> u8
     if records.len() != layout::records_size(size) {
         return 2;
     }
-    let n = size.places - size.rows;
-    let mut node = [0u8; 4096];
-    let mut row = [0u16; 4096];
-    open_in(records, places, &mut node[..n], &mut row[..n], size)
-}
-
-// The same, with buffers lent for the table.
-fn open_in(
-    records: &mut [u8],
-    places: &mut [u8],
-    node: &mut [u8],
-    row: &mut [u16],
-    size: Size,
-) -> u8
-    requires { ⌜ Openable size (now records) (now places) (now node) (now row) ⌝ }
-    ensures { λ answer. ⌜ HostOpens size (now (records .entry)) (now (places .entry)) answer (now (records .exit), now (places .exit)) ⌝ }
-{
-    let opened = opening::open(size, places, node, row);
-    let tree = opened.tree;
-    recording::store(records, size, tree, node, row);
+    opening::clear(places);
+    lay_first(records, size);
     0
 }

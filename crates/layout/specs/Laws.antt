@@ -34,7 +34,7 @@ unfolding tableBytes
 table-laid node row x y = lays-then x y
 
 -- what is laid from the front to the end is all
-laid-all : (b t : List ℕ) → length t ≡ length b → laid b 0 t ≡ t
+pub laid-all : (b t : List ℕ) → length t ≡ length b → laid b 0 t ≡ t
 unfolding laid
 laid-all b t e = let n : 0 + length t ≡ length b = omega (arith, e) in rw (n, drop-of-length-le b {i = length b} (omega arith)) (append-nil t)
 

@@ -11,7 +11,8 @@ pub struct Opened {
     pub tree: Tree,
 }
 
-fn clear(bytes: &mut [u8])
+// Every byte becomes 0.
+pub fn clear(bytes: &mut [u8])
     ensures { λ r. ⌜ now (bytes .exit) ≡ replicate (length (now (bytes .entry))) 0 ⌝ }
 {
     let mut i: usize = 0;

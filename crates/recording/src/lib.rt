@@ -13,7 +13,7 @@ use measures::Size;
 use trees::Tree;
 
 // The measures.
-fn head(size: Size) -> [u16; 3]
+pub fn head(size: Size) -> [u16; 3]
     requires { ⌜ Within size ⌝ }
     ensures { λ h. ⌜ h ≡ (size .rows ∷ size .width ∷ size .places ∷ []) ⌝ }
 {
@@ -50,24 +50,4 @@ pub fn renew(records: &mut [u8], tree: Tree, row: &[u16])
     lay_tree(records, STATES_AT, tree);
     let rows = TABLE_AT + row.len();
     laying::lay_numbers(records, rows, row);
-}
-
-// The table.
-fn lay_table<'a>(records: &mut [u8], at: usize, node: &'a [u8], row: &'a [u16]) -> usize
-    requires { ⌜ (at + length (now node)) + 2 * length (now row) ≤ length (now records) ⌝ }
-    ensures { λ to. ⌜ Lays (now (records .entry)) at (tableBytes (now (node .entry)) (now (row .entry))) (now (records .exit)) to ⌝ }
-{
-    let a = laying::lay(records, at, node);
-    laying::lay_numbers(records, a, row)
-}
-
-// All of the records.
-pub fn store<'a>(records: &mut [u8], size: Size, tree: Tree, node: &'a [u8], row: &'a [u16])
-    requires { ⌜ Within size × (length (now records) ≡ recordsSize size) × (length (now node) ≡ entries size) × (length (now row) ≡ entries size) ⌝ }
-    ensures { λ r. ⌜ now (records .exit) ≡ stored (recordsOf size tree (now (node .entry)) (now (row .entry))) ⌝ }
-{
-    let first = head(size);
-    let a = laying::lay_numbers(records, 0, &first);
-    let b = lay_tree(records, a, tree);
-    lay_table(records, b, node, row);
 }
