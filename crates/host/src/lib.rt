@@ -16,11 +16,11 @@ pub fn keep(records: &mut [u8], answer: u8, tree: Tree, row: &[u16])
 }
 
 // The same of a call that changes the tree alone.
-pub fn keep_tree(records: &mut [u8], answer: u8, tree: Tree)
+pub fn keep_tree(records: &mut [u8], number: u8, tree: Tree)
     requires { ⌜ Fits (now records) ⌝ }
-    ensures { λ r. ⌜ Kept answer (now (records .entry)) (stored (recordsOf (sizeAt (now (records .entry))) tree (nodesAt (now (records .entry))) (rowsAt (now (records .entry))))) (now (records .exit)) ⌝ }
+    ensures { λ r. ⌜ Kept number (now (records .entry)) (stored (recordsOf (sizeAt (now (records .entry))) tree (nodesAt (now (records .entry))) (rowsAt (now (records .entry))))) (now (records .exit)) ⌝ }
 {
-    if answer != 0 {
+    if number != 0 {
         return;
     }
     recording::renew_tree(records, tree);

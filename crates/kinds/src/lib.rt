@@ -1,4 +1,6 @@
 // Rule 2 of SPEC 4: what a node of each state has. Each part counts what is wrong in a loop that is never left early: so the compiler takes many nodes at once.
+ghost use mathlib.Core.Path.{_≡_};
+ghost use mathlib.Core.Logic.{_≢_};
 ghost use Rattle.basics.specs.Decide.{Decides};
 ghost use Rattle.faults.specs.Faults.{Below};
 ghost use Rattle.trees.specs.Trees.{treeOf};
@@ -20,6 +22,32 @@ fn kinds(state: &[u8; 128]) -> bool
     wrong == 0
 }
 
+// Has an empty node a parent? The two numbers are compared in a function of their own, so that the loop that asks has no branch left.
+fn stray_parent(s: u8, p: u8) -> bool
+    ensures { λ r. ⌜ Decides r ((s ≡ 0) × (p ≢ 0)) ⌝ }
+{
+    if s != 0 {
+        return false;
+    }
+    if p == 0 {
+        return false;
+    }
+    true
+}
+
+// Has a node a tag that is not alive?
+fn stray_tag(s: u8, g: u16) -> bool
+    ensures { λ r. ⌜ Decides r ((s ≢ 1) × (g ≢ 0)) ⌝ }
+{
+    if s == 1 {
+        return false;
+    }
+    if g == 0 {
+        return false;
+    }
+    true
+}
+
 // Has no empty node a parent?
 fn hung<'a>(state: &'a [u8; 128], parent: &'a [u8; 128]) -> bool
     ensures { λ r. ⌜ Decides r (Below (Hung (now (state .entry)) (now (parent .entry))) 128) ⌝ }
@@ -27,12 +55,8 @@ fn hung<'a>(state: &'a [u8; 128], parent: &'a [u8; 128]) -> bool
     let mut wrong: u8 = 0;
     let mut n: usize = 0;
     while n < 128 {
-        let s = state[n];
-        let p = parent[n];
-        if s == 0 {
-            if p != 0 {
-                wrong += 1;
-            }
+        if stray_parent(state[n], parent[n]) {
+            wrong += 1;
         }
         n += 1;
     }
@@ -46,12 +70,8 @@ fn named<'a>(state: &'a [u8; 128], tag: &'a [u16; 128]) -> bool
     let mut wrong: u8 = 0;
     let mut n: usize = 0;
     while n < 128 {
-        let s = state[n];
-        let g = tag[n];
-        if s != 1 {
-            if g != 0 {
-                wrong += 1;
-            }
+        if stray_tag(state[n], tag[n]) {
+            wrong += 1;
         }
         n += 1;
     }

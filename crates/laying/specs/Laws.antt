@@ -6,7 +6,7 @@ use Prim.Native.Nat.{ℕ, zero, suc, _+_, _-_, _*_, _≤_, _<_}
 use native.Mathlib.Decide.{ℕ-discrete}
 use native.Mathlib.Omega.{arith}
 use lib.ListN.{length, take, drop, set, length-append, length-drop, length-set, take-append-drop}
-use lib.Seq.{length-take-le, take-at, drop-at, drop-drop, set-split, take-suc, take-all, ext-getD, getD-set-same, getD-set-other}
+use lib.Seq.{length-take-le, take-at, drop-at, drop-drop, set-split, take-suc, take-all, ext-getD, getD-set-same, getD-set-other, getD-take, getD-drop}
 use Rattle.basics.specs.Decide.{at}
 use Rattle.laying.specs.Laid.{laid, Lays, twos, highByte, lowByte, pairs, numbers, pairAt}
 
@@ -195,3 +195,10 @@ lays-part b p bytes ys m e =
       ends = refl;
       inside = omega (arith, m, ap length same, laid-size b p bytes m);
     }
+
+-- a number that begins a part
+pub part-number : (b : List ℕ) (p : ℕ) → pairAt (take ((p + 2) - p) (drop p b)) 0 ≡ pairAt b p
+part-number b p =
+    let w : (p + 2) - p ≡ 2 = omega arith in
+    let z : p + 0 ≡ p = omega arith in
+    rw (w, getD-take 2 (drop p b) 0 0 (omega arith), getD-take 2 (drop p b) 1 0 (omega arith), getD-drop p b 0 0, getD-drop p b 1 0, z)

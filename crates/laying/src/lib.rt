@@ -59,14 +59,23 @@ pub fn lay_numbers(out: &mut [u8], at: usize, xs: &[u16]) -> usize
     to
 }
 
-// The number that begins at p.
+// The number that bytes begin with.
+fn first_number(bytes: &[u8]) -> u16
+    requires { ⌜ 1 < length (now bytes) ⌝ }
+    ensures { λ x. ⌜ x ≡ pairAt (now (bytes .entry)) 0 ⌝ }
+{
+    let high = bytes[0] as u16;
+    let low = bytes[1] as u16;
+    high * 256 + low
+}
+
+// The number that begins at p. Its two bytes are read from a part of their own, so that the compiler reads them at once.
 pub fn number(bytes: &[u8], p: usize) -> u16
     requires { ⌜ p + 1 < length (now bytes) ⌝ }
     ensures { λ x. ⌜ x ≡ pairAt (now (bytes .entry)) p ⌝ }
 {
-    let high = bytes[p] as u16;
-    let low = bytes[p + 1] as u16;
-    high * 256 + low
+    let to = p + 2;
+    first_number(&bytes[p..to])
 }
 
 // Every number of the bytes.

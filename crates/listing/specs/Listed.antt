@@ -1,6 +1,6 @@
 -- A list of the nodes in use, and how it grows. Assumes nothing.
 use mathlib.Core.Path.{_≡_, refl, sym, _∙_, ap}
-use mathlib.Core.Logic.{_≢_, by-cases}
+use mathlib.Core.Logic.{_≢_, _↔_, by-cases}
 use mathlib.Core.List.{List}
 use Prim.Native.Nat.{ℕ, _+_, _-_, _≤_, _<_}
 use native.Mathlib.Decide.{ℕ-discrete, decLt}
@@ -90,14 +90,22 @@ listed-of state xs k h = record {
 abbrev pub Idle : List ℕ → ℕ → Type 0
 Idle state n = at state n ≡ 0
 
+-- no node from n on, up to another, is in use
+abbrev pub IdleFrom : List ℕ → ℕ → ℕ → Type 0
+IdleFrom state n to = (m : ℕ) → n ≤ m → m < to → at state m ≡ 0
+
+pub idle-part : (state : List ℕ) (n to : ℕ) → to ≤ length state → (let part = take (to - n) (drop n state) in Below (Idle part) (length part) ↔ IdleFrom state n to)
+idle-part state n to t = (
+  λ f m a b. ap (at state) (let d : m ≡ n + (m - n) = omega arith in d) ∙ sym (same (m - n) (omega arith)) ∙ f (m - n) (simp (length-take, length-drop) (omega arith)),
+  λ f k l. let b : k < to - n = omega (arith, simp (length-take, length-drop) at l) in same k b ∙ f (n + k) (omega arith) (omega arith),
+)
+  where
+    same : (k : ℕ) → k < to - n → at (take (to - n) (drop n state)) k ≡ at state (n + k)
+    same k l = getD-take (to - n) (drop n state) k 0 l ∙ getD-drop n state k 0
+
 -- past a stretch whose nodes are all not in use
-pub listing-idle : (state xs : List ℕ) (k n to : ℕ) → n ≤ to → to ≤ length state
-    → (let part = take (to - n) (drop n state) in Below (Idle part) (length part)) → Listing state xs k n → Listing state xs k to
-listing-idle state xs k n to l t f = listing-past state xs k n to l (λ m a b z u. u (
-    ap (at state) (let d : m ≡ n + (m - n) = omega arith in d)
-    ∙ sym (getD-drop n state (m - n) 0)
-    ∙ sym (getD-take (to - n) (drop n state) (m - n) 0 (omega arith))
-    ∙ f (m - n) (simp (length-take, length-drop) (omega arith))))
+pub listing-idle : (state xs : List ℕ) (k n to : ℕ) → n ≤ to → IdleFrom state n to → Listing state xs k n → Listing state xs k to
+listing-idle state xs k n to l f = listing-past state xs k n to l (λ m a b z u. u (f m a b))
 
 -- what holds at every position of the list holds of every node in use
 pub listed-all : {state xs : List ℕ} → Listed state xs → (P : ℕ → Type 0) → Below (λ j. P (at xs j)) (length xs) → (n : ℕ) → n ≢ 0 → n < 128 → at state n ≢ 0 → P n

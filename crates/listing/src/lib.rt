@@ -1,10 +1,10 @@
 // The nodes in use, side by side, so that the rules of the tree go through these alone.
 ghost use mathlib.Core.Path.{_≡_};
-ghost use Prim.Native.Nat.{_≤_};
+ghost use Prim.Native.Nat.{_+_, _≤_};
 ghost use lib.ListN.{length, take};
 ghost use Rattle.basics.specs.Decide.{Decides};
 ghost use Rattle.faults.specs.Faults.{Below};
-ghost use Rattle.listing.specs.Listed.{Listed, Listing, Idle};
+ghost use Rattle.listing.specs.Listed.{Listed, Listing, Idle, IdleFrom};
 
 // Is none of a few nodes in use? All are looked at, and none is left early: so the compiler takes many at once.
 fn idle(part: &[u8]) -> bool
@@ -20,6 +20,15 @@ fn idle(part: &[u8]) -> bool
         n += 1;
     }
     busy == 0
+}
+
+// Is none of 16 nodes from node n on in use?
+pub fn idle_from(state: &[u8], n: usize) -> bool
+    requires { ⌜ (length (now state) ≡ 128) × (n + 16 ≤ 128) ⌝ }
+    ensures { λ b. ⌜ Decides b (IdleFrom (now (state .entry)) n (n + 16)) ⌝ }
+{
+    let to = n + 16;
+    idle(&state[n..to])
 }
 
 // The nodes in use from one node to another join the list, which has k already.
@@ -50,7 +59,7 @@ pub fn list(state: &[u8], out: &mut [u8]) -> usize
     let mut n: usize = 0;
     while n < 128 {
         let to = n + 16;
-        if !idle(&state[n..to]) {
+        if !idle_from(state, n) {
             k = enlist(state, out, k, n, to);
         }
         n = to;

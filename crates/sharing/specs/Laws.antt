@@ -118,6 +118,13 @@ module _ (t : Tree) (notes : List ℕ) (r p : ℕ) where
       no e d true x = let (a, q) = from-reads t e r p n l x in absurd (f (a .1) e d q)
       no e d false x = x
 
+  -- past nodes that are not in use
+  pub counted-past : {n c : ℕ} (k : ℕ) → n + k ≤ 128 → ((m : ℕ) → n ≤ m → m < n + k → at (t .state) m ≡ 0) → Counted t notes r p n c → Counted t notes r p (n + k) c
+  counted-past {n} zero l f h = let e : n ≡ n + 0 = omega arith in rw (← e) h
+  counted-past {n} (suc k) l f h =
+      let e : (n + k) + 1 ≡ n + suc k = omega arith in
+      rw (← e) (counted-no (omega arith) (counted-past k (omega arith) (λ m a b. f m a (omega arith)) h) (λ a. absurd (omega (arith, a, f (n + k) (omega arith) (omega arith)))))
+
   pub counted-all : {n c : ℕ} → 128 ≤ n → Counted t notes r p n c → ReadersOf t notes r p c
   counted-all {n} l h e d = let x : n ≡ 128 = omega (arith, h .most) in h .sums e d ∙ ap (count (readsFrom t e r p)) x
 

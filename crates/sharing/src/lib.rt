@@ -1,9 +1,11 @@
 // Where a row is read and by how many, and is there a free place?
 ghost use mathlib.Core.Path.{_≡_};
+ghost use Prim.Native.Nat.{_≤_};
 ghost use Rattle.trees.specs.Trees.{treeOf, tableOf};
 ghost use Rattle.tree.specs.Rules.{foundOf, Parents};
 ghost use Rattle.reading.specs.Lookup.{Looking};
 ghost use Rattle.sharing.specs.Sharing.{ReadersOf, Finds, freeEntry};
+ghost use Rattle.sharing.specs.Laws.{Counted};
 use measures::Place;
 use measures::Row;
 use tree::Found;
@@ -14,7 +16,36 @@ pub struct Looked {
     pub sharers: usize,
 }
 
-// How many living versions read row r from the place p, by the notes of the row.
+// How many living versions read row r from the place p, by the notes of the row: those from one node to another are counted to the sum of those before.
+fn readers_in<'a>(
+    state: &'a [u8; 128],
+    tag: &'a [u16; 128],
+    parent: &'a [u8; 128],
+    notes: &'a [u16; 128],
+    p: Place,
+    r: Row,
+    from: usize,
+    to: usize,
+    before: usize,
+) -> usize
+    requires { ⌜ Parents (treeOf (now state) (now tag) (now parent)) × (from ≤ to) × (to ≤ 128) × Counted (treeOf (now state) (now tag) (now parent)) (now notes) (r .0) (p .0) from before ⌝ }
+    ensures { λ c. ⌜ Counted (treeOf (now (state .entry)) (now (tag .entry)) (now (parent .entry))) (now (notes .entry)) (r .0) (p .0) to c ⌝ }
+{
+    let mut sum = before;
+    let mut n = from;
+    while n < to {
+        if state[n] == 1 {
+            let q = climbing::climb(state, tag, parent, notes, n, r);
+            if measures::same_place(p, q) {
+                sum += 1;
+            }
+        }
+        n += 1;
+    }
+    sum
+}
+
+// All of them. Stretches of 16 nodes without one in use are passed as a whole.
 fn readers<'a>(
     state: &'a [u8; 128],
     tag: &'a [u16; 128],
@@ -29,13 +60,11 @@ fn readers<'a>(
     let mut sum: usize = 0;
     let mut n: usize = 0;
     while n < 128 {
-        if state[n] == 1 {
-            let q = climbing::climb(state, tag, parent, notes, n, r);
-            if measures::same_place(p, q) {
-                sum += 1;
-            }
+        let to = n + 16;
+        if !listing::idle_from(state, n) {
+            sum = readers_in(state, tag, parent, notes, p, r, n, to, sum);
         }
-        n += 1;
+        n = to;
     }
     sum
 }

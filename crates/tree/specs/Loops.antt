@@ -11,7 +11,7 @@ use borrow.Author.Tests.{eqb-true}
 use lib.Dec.{eqb}
 use Rattle.basics.specs.Decide.{at, and-no}
 use Rattle.basics.specs.Count.{count, first}
-use Rattle.basics.specs.CountLaws.{count-none, count-no, first-yes, first-no, first-more}
+use Rattle.basics.specs.CountLaws.{count-none, count-no, first-yes, first-no, first-more, first-nothing}
 use Rattle.trees.specs.declared.Tree.{Tree}
 use Rattle.trees.specs.Trees.{InUse, up, ancestor, Reaches, isSnapshot, isVersion, version}
 use Rattle.trees.specs.Rules.{Linked}
@@ -27,6 +27,11 @@ module _ (t : Tree) where
 
   pub version-past : (g n : ℕ) → first (isVersion t g) n ≡ none → (at (t .state) n ≡ 1 → at (t .tag) n ≡ g → ⊥) → first (isVersion t g) (n + 1) ≡ none
   version-past g n e h = first-no (isVersion t g) n e (version-no t g n h)
+
+  -- a tag that no node has
+  pub version-none : (g : ℕ) → ((n : ℕ) → n < 128 → at (t .tag) n ≢ g) → version t g ≡ none
+  unfolding version
+  version-none g h = first-nothing (isVersion t g) 128 (λ n l. version-no t g n (λ a e. h n l e))
 
   -- node 0 is no snapshot
   pub snapshots-first : count (isSnapshot t) 1 ≡ 0

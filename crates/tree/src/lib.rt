@@ -8,8 +8,8 @@ pub enum Found {
     Missing,
 }
 
-// The living node with a tag.
-pub fn version<'a>(
+// The living node with a tag, one node after the other.
+fn search<'a>(
     state: &'a [u8; 128],
     tag: &'a [u16; 128],
     parent: &'a [u8; 128],
@@ -27,6 +27,21 @@ pub fn version<'a>(
         n += 1;
     }
     Found::Missing
+}
+
+// The living node with a tag. A tag that no node has is not searched for.
+pub fn version<'a>(
+    state: &'a [u8; 128],
+    tag: &'a [u16; 128],
+    parent: &'a [u8; 128],
+    wanted: u16,
+) -> Found
+    ensures { λ r. ⌜ r ≡ foundOf (version (treeOf (now (state .entry)) (now (tag .entry)) (now (parent .entry))) wanted) ⌝ }
+{
+    if !scanning::among(tag, wanted) {
+        return Found::Missing;
+    }
+    search(state, tag, parent, wanted)
 }
 
 // How many snapshots are alive, counted in a byte: so the compiler takes many nodes at once.

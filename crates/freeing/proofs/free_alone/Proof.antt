@@ -10,19 +10,16 @@ affected-requires c κs = search needs
 childless-requires : tie.Need-childless-requires
 childless-requires c κs = search needs
 
-near-requires : tie.Need-near-requires
-near-requires c κs = let p = c .before .before .before .before .before .before .pre in (λ n l. p .3 .fitting .linked .parent n, p .2)
-
-kin-requires : tie.Need-kin-requires
-kin-requires c κs = let p = c .before .before .before .before .before .before .before .before .pre in (λ n l. p .3 .fitting .linked .parent n, p .2)
+kin-of-requires : tie.Need-kin-of-requires
+kin-of-requires c κs = let p = c .before .before .before .before .before .before .pre in (λ n l. p .3 .fitting .linked .parent n, p .1, p .2)
 
 free-affected-requires : tie.Need-free-affected-requires
 free-affected-requires c κs =
     let k = c .before .before .before .before .before .before in
-    let h = k .before .before .before in
+    let h = k .before in
     let a = h .before in
     let p = a .before .before .before .before .before .pre in
-    (p .1, p .3, k .kin .ensures .0, k .kin .ensures .1, a .affected .ensures, λ x. holds (h .childless .result) (h .childless .ensures) x)
+    (p .1, p .3, k .kin-of .ensures .0, k .kin-of .ensures .1, a .affected .ensures, λ x. holds (h .childless .result) (h .childless .ensures) x)
 
 same-length : tie.Need-same-length
 same-length c = search needs
@@ -39,8 +36,7 @@ free-alone-spec =
     (tie.spec
     affected-requires
     childless-requires
-    near-requires
-    kin-requires
+    kin-of-requires
     free-affected-requires
     same-length
     same-length-2

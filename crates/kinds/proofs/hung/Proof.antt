@@ -2,8 +2,10 @@
 use borrow.Author.Needs.{needs}
 use Prim.Native.Nat.{_≤_, _-_}
 use mathlib.Core.Path.{_≡_}
-use mathlib.Core.Logic.{⊎-elim}
+use mathlib.Core.Logic.{by-cases, ⊎-elim}
+use native.Mathlib.Decide.{ℕ-discrete}
 use native.Mathlib.Omega.{arith}
+use Rattle.basics.specs.Decide.{holds, fails}
 use Rattle.faults.specs.Faults.{Faults, faults-first, faults-kept, faults-broken, faults-all}
 use Rattle.kinds.specs.Kinds.{Hung}
 use Rattle.kinds.proofs.hung.Statement.{statement}
@@ -18,11 +20,14 @@ abbrev μ-loop : tie.MeasureT-loop
 loop-holds : tie.Need-loop-holds Inv-loop μ-loop
 loop-holds c = (omega arith, faults-first)
 
-element-copy-out-s : tie.Need-element-copy-out-s Inv-loop μ-loop
-element-copy-out-s c = search needs
+element-copy-out-stray-parent : tie.Need-element-copy-out-stray-parent Inv-loop μ-loop
+element-copy-out-stray-parent c = search needs
 
-element-copy-out-p : tie.Need-element-copy-out-p Inv-loop μ-loop
-element-copy-out-p c = search needs
+element-copy-out-stray-parent-2 : tie.Need-element-copy-out-stray-parent-2 Inv-loop μ-loop
+element-copy-out-stray-parent-2 c = search needs
+
+stray-parent-requires : tie.Need-stray-parent-requires Inv-loop μ-loop
+stray-parent-requires c κs = search needs
 
 add-wrong : tie.Need-add-wrong Inv-loop μ-loop
 add-wrong c = search needs
@@ -34,12 +39,13 @@ loop-less : tie.Need-loop-less Inv-loop μ-loop
 loop-less c = search needs
 
 loop-again : tie.Need-loop-again Inv-loop μ-loop
-loop-again c = let v = c .before .before .before .before .loop .inv .1 in (
-  omega arith,
-  ⊎-elim (λ w. rw (w .2) (faults-broken (λ h. w .1 .taken (h (w .0 .taken))) v))
-      (⊎-elim (λ w. rw (w .2) (faults-kept (λ y. w .1 .left) v)) (λ w. rw (w .1) (faults-kept (λ y. absurd (w .0 .left y)) v)))
-      (c .if1 .came),
-)
+loop-again c = let a = c .before in
+    let v = a .before .before .before .before .loop .inv .1 in (
+      omega arith,
+      ⊎-elim (λ w. rw (w .1) (faults-broken (λ h. let y = holds (a .stray-parent .result) (a .stray-parent .ensures) (w .0 .taken) in y .1 (h (y .0))) v))
+          (λ w. rw (w .1) (faults-kept (λ y. by-cases (ℕ-discrete _ 0) (λ z. z) (λ z. absurd (fails (a .stray-parent .result) (a .stray-parent .ensures) (w .0 .left) (y, z)))) v))
+          (c .if1 .came),
+    )
 
 returns : tie.Need-returns Inv-loop μ-loop
 returns c = let l = c .before in
@@ -53,8 +59,9 @@ hung-spec =
     Inv-loop
     μ-loop
     loop-holds
-    element-copy-out-s
-    element-copy-out-p
+    element-copy-out-stray-parent
+    element-copy-out-stray-parent-2
+    stray-parent-requires
     add-wrong
     add-n
     loop-less

@@ -2,8 +2,10 @@
 use borrow.Author.Needs.{needs}
 use Prim.Native.Nat.{_≤_, _-_}
 use mathlib.Core.Path.{_≡_}
-use mathlib.Core.Logic.{⊎-elim}
+use mathlib.Core.Logic.{by-cases, ⊎-elim}
+use native.Mathlib.Decide.{ℕ-discrete}
 use native.Mathlib.Omega.{arith}
+use Rattle.basics.specs.Decide.{holds, fails}
 use Rattle.faults.specs.Faults.{Faults, faults-first, faults-kept, faults-broken, faults-all}
 use Rattle.kinds.specs.Kinds.{Named}
 use Rattle.kinds.proofs.named.Statement.{statement}
@@ -18,14 +20,17 @@ abbrev μ-loop : tie.MeasureT-loop
 loop-holds : tie.Need-loop-holds Inv-loop μ-loop
 loop-holds c = (omega arith, faults-first)
 
-element-copy-out-s : tie.Need-element-copy-out-s Inv-loop μ-loop
-element-copy-out-s c = search needs
+element-copy-out-stray-tag : tie.Need-element-copy-out-stray-tag Inv-loop μ-loop
+element-copy-out-stray-tag c = search needs
 
-mul-g : tie.Need-mul-g Inv-loop μ-loop
-mul-g c = search needs
+mul-stray-tag : tie.Need-mul-stray-tag Inv-loop μ-loop
+mul-stray-tag c = search needs
 
-element-copy-out-g : tie.Need-element-copy-out-g Inv-loop μ-loop
-element-copy-out-g c = search needs
+element-copy-out-stray-tag-2 : tie.Need-element-copy-out-stray-tag-2 Inv-loop μ-loop
+element-copy-out-stray-tag-2 c = search needs
+
+stray-tag-requires : tie.Need-stray-tag-requires Inv-loop μ-loop
+stray-tag-requires c κs = search needs
 
 add-wrong : tie.Need-add-wrong Inv-loop μ-loop
 add-wrong c = search needs
@@ -37,12 +42,13 @@ loop-less : tie.Need-loop-less Inv-loop μ-loop
 loop-less c = search needs
 
 loop-again : tie.Need-loop-again Inv-loop μ-loop
-loop-again c = let v = c .before .before .before .before .loop .inv .1 in (
-  omega arith,
-  ⊎-elim (λ w. rw (w .2) (faults-broken (λ h. w .1 .taken (h (w .0 .taken))) v))
-      (⊎-elim (λ w. rw (w .2) (faults-kept (λ y. w .1 .left) v)) (λ w. rw (w .1) (faults-kept (λ y. absurd (y (w .0 .left))) v)))
-      (c .if1 .came),
-)
+loop-again c = let a = c .before in
+    let v = a .before .before .before .before .loop .inv .1 in (
+      omega arith,
+      ⊎-elim (λ w. rw (w .1) (faults-broken (λ h. let y = holds (a .stray-tag .result) (a .stray-tag .ensures) (w .0 .taken) in y .1 (h (y .0))) v))
+          (λ w. rw (w .1) (faults-kept (λ y. by-cases (ℕ-discrete _ 0) (λ z. z) (λ z. absurd (fails (a .stray-tag .result) (a .stray-tag .ensures) (w .0 .left) (y, z)))) v))
+          (c .if1 .came),
+    )
 
 returns : tie.Need-returns Inv-loop μ-loop
 returns c = let l = c .before in
@@ -56,9 +62,10 @@ named-spec =
     Inv-loop
     μ-loop
     loop-holds
-    element-copy-out-s
-    mul-g
-    element-copy-out-g
+    element-copy-out-stray-tag
+    mul-stray-tag
+    element-copy-out-stray-tag-2
+    stray-tag-requires
     add-wrong
     add-n
     loop-less

@@ -1,43 +1,35 @@
 -- `laying::number` meets its contract. Assumes nothing.
+use mathlib.Core.Path.{_∙_}
+use Rattle.laying.specs.Laws.{part-number}
 use borrow.Author.Needs.{needs}
-use Prim.Native.Nat.{_+_}
-use native.Mathlib.Omega.{arith}
 use Rattle.laying.proofs.number.Statement.{statement}
 use Rattle.laying.proofs.number.Tie as tie
 
-shared-slice-read-high : tie.Need-shared-slice-read-high
-shared-slice-read-high c = search needs
+add-to : tie.Need-add-to
+add-to c = search needs
 
-cast-high : tie.Need-cast-high
-cast-high c = omega (arith, c .shared-slice-known .given (c .before .args .p))
+sub-first-number : tie.Need-sub-first-number
+sub-first-number c = search needs
 
-add-low : tie.Need-add-low
-add-low c = search needs
+part-first-number-start : tie.Need-part-first-number-start
+part-first-number-start c = search needs
 
-shared-slice-read-low : tie.Need-shared-slice-read-low
-shared-slice-read-low c = search needs
+part-first-number-end : tie.Need-part-first-number-end
+part-first-number-end c = search needs
 
-cast-low : tie.Need-cast-low
-cast-low c = omega (arith, c .shared-slice-known2 .given (c .before .before .args .p + 1))
-
-mul-result : tie.Need-mul-result
-mul-result c = omega (arith, c .before .shared-slice-known .given (c .before .before .args .p))
-
-add-result : tie.Need-add-result
-add-result c = omega (arith, c .before .shared-slice-known .given (c .before .before .args .p), c .shared-slice-known2 .given (c .before .before .args .p + 1))
+first-number-requires : tie.Need-first-number-requires
+first-number-requires c κs = search needs
 
 returns : tie.Need-returns
-returns c = search needs
+returns c = let a = c .before .before .before .args in c .first-number .ensures ∙ part-number (a .bytes .now) (a .p)
 
 pub number-spec : {M : Type 1} → statement M
 number-spec =
     tie.close
     (tie.spec
-    shared-slice-read-high
-    cast-high
-    add-low
-    shared-slice-read-low
-    cast-low
-    mul-result
-    add-result
+    add-to
+    sub-first-number
+    part-first-number-start
+    part-first-number-end
+    first-number-requires
     returns)

@@ -3,8 +3,7 @@ use borrow.Author.Needs.{needs}
 use Prim.Native.Nat.{ℕ, _≤_, _+_, _*_, _-_}
 use mathlib.Core.Path.{_≡_}
 use native.Mathlib.Omega.{arith}
-use lib.ListN.{length}
-use Rattle.basics.specs.Decide.{passed, failed}
+use Rattle.basics.specs.Decide.{passed}
 use Rattle.listing.specs.Listed.{Listing, listing-first, listing-idle, listed-of}
 use Rattle.listing.proofs.list.Statement.{statement}
 use Rattle.listing.proofs.list.Tie as tie
@@ -21,20 +20,11 @@ loop-holds c = (omega arith, (0, omega arith), listing-first _ _ (c .before .bef
 add-to : tie.Need-add-to Inv-loop μ-loop
 add-to c = search needs
 
-sub-idle : tie.Need-sub-idle Inv-loop μ-loop
-sub-idle c = search needs
-
-part-idle-start : tie.Need-part-idle-start Inv-loop μ-loop
-part-idle-start c = search needs
-
-part-idle-end : tie.Need-part-idle-end Inv-loop μ-loop
-part-idle-end c = let v = c .before .loop .inv in omega (arith, v .1 .1, c .loop-test .taken, c .before .before .before .before .pre .0)
-
-idle-requires : tie.Need-idle-requires Inv-loop μ-loop
-idle-requires c κs = search needs
+idle-from-requires : tie.Need-idle-from-requires Inv-loop μ-loop
+idle-from-requires c κs = (c .before .before .before .before .pre .0, omega (arith, c .before .loop .inv .1 .1, c .loop-test .taken))
 
 enlist-requires : tie.Need-enlist-requires Inv-loop μ-loop
-enlist-requires c κs = let i = c .before .before .before .before in
+enlist-requires c κs = let i = c .before .before .before in
     let l = i .before in
     let v = l .loop .inv in
     (l .before .before .before .pre .0, omega arith, omega (arith, v .1 .1, i .loop-test .taken), v .2)
@@ -44,7 +34,7 @@ loop-less c = search needs
 
 loop-again : tie.Need-loop-again Inv-loop μ-loop
 loop-again c = let e = c .before .before in
-    let i = e .before .before .before .before .before in
+    let i = e .before .before .before .before in
     let v = i .before .loop .inv in
     (omega (arith, v .1 .1, i .loop-test .taken), (v .1 .0 + 1, omega (arith, v .1 .1)), e .enlist .ensures)
 
@@ -53,12 +43,11 @@ loop-less-2 c = search needs
 
 loop-again-2 : tie.Need-loop-again-2 Inv-loop μ-loop
 loop-again-2 c = let a = c .before in
-    let i = a .before .before in
-    let l = i .before in
-    let v = l .loop .inv in (
+    let i = a .before in
+    let v = i .before .loop .inv in (
       omega (arith, v .1 .1, i .loop-test .taken),
       (v .1 .0 + 1, omega (arith, v .1 .1)),
-      listing-idle _ _ _ _ _ (omega arith) (omega (arith, v .1 .1, i .loop-test .taken, l .before .before .before .pre .0)) (passed (a .idle .result) (a .idle .ensures) (c .if1 .left)) (v .2),
+      listing-idle _ _ _ _ _ (omega arith) (passed (a .idle-from .result) (a .idle-from .ensures) (c .if1 .left)) (v .2),
     )
 
 same-length : tie.Need-same-length Inv-loop μ-loop
@@ -77,10 +66,7 @@ list-spec =
     μ-loop
     loop-holds
     add-to
-    sub-idle
-    part-idle-start
-    part-idle-end
-    idle-requires
+    idle-from-requires
     enlist-requires
     loop-less
     loop-again

@@ -1,68 +1,31 @@
--- `tree::version` meets its contract: no node passed has the tag. Assumes nothing.
-use borrow.Author.Needs.{needs}
-use Prim.Native.Nat.{_≤_, _-_}
+-- `tree::version` meets its contract: a tag that no node has is no version's. Assumes nothing.
+use Prim.Native.Nat.{ℕ, _<_}
 use mathlib.Core.Path.{_≡_}
-use mathlib.Core.Logic.{⊎-elim}
-use mathlib.Core.Option.{none}
-use native.Mathlib.Omega.{arith}
-use Rattle.basics.specs.CountLaws.{first-start}
-use Rattle.tree.specs.Loops.{version-here, version-past}
-use Rattle.trees.specs.Trees.{treeOf, isVersion, version}
-use Rattle.basics.specs.Count.{first}
+use lib.ListN.{length}
+use Rattle.basics.specs.Decide.{failed}
+use Rattle.tree.specs.Loops.{version-none}
+use Rattle.trees.specs.Trees.{treeOf}
+use borrow.Author.Needs.{needs}
 use Rattle.tree.proofs.version.Statement.{statement}
 use Rattle.tree.proofs.version.Tie as tie
 
-abbrev Inv-loop : tie.InvT-loop
-Inv-loop state tag parent wanted n₀ n = (n ≤ 128) × (first (isVersion (treeOf state tag parent) wanted) n ≡ none)
+-- there are 128 tags
+long : (c : tie.After-among-arg) (n : ℕ) → n < 128 → n < length (c .before .args .tag .now)
+long c n l = let e : length (c .before .args .tag .now) ≡ 128 = search needs in rw e l
 
-abbrev μ-loop : tie.MeasureT-loop
-μ-loop state tag parent wanted n₀ n = 128 - n
+among-requires : tie.Need-among-requires
+among-requires c κs = search needs
 
-loop-holds : tie.Need-loop-holds Inv-loop μ-loop
-loop-holds c = (omega arith, first-start _)
+returns : tie.Need-returns
+returns c = let m = c .before in
+    let a = m .before .before .args in
+    rw (version-none (treeOf (a .state .now) (a .tag .now) (a .parent .now)) (a .wanted) (λ n l e. failed (m .among .result) (m .among .ensures) (c .if1 .taken) (n, long (m .before) n l, e)))
 
-element-copy-out-if1 : tie.Need-element-copy-out-if1 Inv-loop μ-loop
-element-copy-out-if1 c = search needs
+search-requires : tie.Need-search-requires
+search-requires c κs = search needs
 
-mul-if2 : tie.Need-mul-if2 Inv-loop μ-loop
-mul-if2 c = search needs
-
-element-copy-out-if2 : tie.Need-element-copy-out-if2 Inv-loop μ-loop
-element-copy-out-if2 c = search needs
-
-returns : tie.Need-returns Inv-loop μ-loop
-returns c =
-    let l = c .before .before .before .before .before in
-    rw (version-here _ _ _ (c .before .before .before .before .loop-test .taken) (l .loop .inv .1) (c .before .before .if1 .taken) (c .if2 .taken))
-
-add-n : tie.Need-add-n Inv-loop μ-loop
-add-n c = search needs
-
-loop-less : tie.Need-loop-less Inv-loop μ-loop
-loop-less c = search needs
-
-loop-again : tie.Need-loop-again Inv-loop μ-loop
-loop-again c = (omega arith, version-past _ _ _ (c .before .before .before .loop .inv .1) (⊎-elim (λ w s g. w .2 .left g) (λ w s g. w .left s) (c .if1 .came)))
-
-returns-2 : tie.Need-returns-2 Inv-loop μ-loop
-unfolding version
-returns-2 c =
-    let e : c .before .loop .n ≡ 128 = omega arith in
-    let h = rw e at (c .before .loop .inv .1) in
-    rw h
+returns-2 : tie.Need-returns-2
+returns-2 c = search needs
 
 pub version-spec : {M : Type 1} → statement M
-version-spec =
-    tie.close
-    (tie.spec
-    Inv-loop
-    μ-loop
-    loop-holds
-    element-copy-out-if1
-    mul-if2
-    element-copy-out-if2
-    returns
-    add-n
-    loop-less
-    loop-again
-    returns-2)
+version-spec = tie.close (tie.spec among-requires returns search-requires returns-2)
