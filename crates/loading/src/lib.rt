@@ -19,7 +19,7 @@ fn load_tree(records: &[u8]) -> Tree
     let mut tag = [0u16; 128];
     placing::fill(&mut state, &records[STATES_AT..PARENTS_AT]);
     placing::fill(&mut parent, &records[PARENTS_AT..TAGS_AT]);
-    laying::load_numbers(&records[TAGS_AT..TABLE_AT], &mut tag);
+    laying::load_few(&records[TAGS_AT..TABLE_AT], &mut tag);
     Tree { state, tag, parent }
 }
 

@@ -34,23 +34,23 @@ part-fill-end-2 c = search needs
 fill-requires-2 : tie.Need-fill-requires-2
 fill-requires-2 c κs = search needs
 
-sub-load-numbers : tie.Need-sub-load-numbers
-sub-load-numbers c = search needs
+sub-load-few : tie.Need-sub-load-few
+sub-load-few c = search needs
 
-part-load-numbers-start : tie.Need-part-load-numbers-start
-part-load-numbers-start c = search needs
+part-load-few-start : tie.Need-part-load-few-start
+part-load-few-start c = search needs
 
-part-load-numbers-end : tie.Need-part-load-numbers-end
-part-load-numbers-end c = search needs
+part-load-few-end : tie.Need-part-load-few-end
+part-load-few-end c = search needs
 
-slice-aggregate-load-numbers : tie.Need-slice-aggregate-load-numbers
-slice-aggregate-load-numbers c = search needs
+slice-aggregate-load-few : tie.Need-slice-aggregate-load-few
+slice-aggregate-load-few c = search needs
 
-load-numbers-requires : tie.Need-load-numbers-requires
-load-numbers-requires c κs = search needs
+load-few-requires : tie.Need-load-few-requires
+load-few-requires c κs = search needs
 
 returns : tie.Need-returns
-returns c = tree-same (c .before .before .before .before .before .before .before .before .before .fill .ensures) (c .before .before .before .before .before .fill2 .ensures) (c .before .load-numbers .ensures)
+returns c = tree-same (c .before .before .before .before .before .before .before .before .before .fill .ensures) (c .before .before .before .before .before .fill2 .ensures) (c .before .load-few .ensures)
 
 pub load-tree-spec : {M : Type 1} → statement M
 load-tree-spec =
@@ -66,9 +66,9 @@ load-tree-spec =
     part-fill-start-2
     part-fill-end-2
     fill-requires-2
-    sub-load-numbers
-    part-load-numbers-start
-    part-load-numbers-end
-    slice-aggregate-load-numbers
-    load-numbers-requires
+    sub-load-few
+    part-load-few-start
+    part-load-few-end
+    slice-aggregate-load-few
+    load-few-requires
     returns)

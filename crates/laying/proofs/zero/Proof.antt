@@ -1,0 +1,55 @@
+-- `laying::zero` meets its contract: bytes other than 0 are counted. Assumes nothing.
+use borrow.Author.Needs.{needs}
+use Prim.Native.Nat.{_≤_, _-_}
+use mathlib.Core.Path.{_≡_}
+use mathlib.Core.Logic.{⊎-elim}
+use native.Mathlib.Omega.{arith}
+use lib.ListN.{length}
+use Rattle.faults.specs.Faults.{Faults, faults-first, faults-kept, faults-broken, faults-all}
+use Rattle.laying.specs.Laws.{Zero}
+use Rattle.laying.proofs.zero.Statement.{statement}
+use Rattle.laying.proofs.zero.Tie as tie
+
+abbrev Inv-loop : tie.InvT-loop
+Inv-loop bytes others₀ i₀ others i = (i ≤ length bytes) × Faults (Zero bytes) i others
+
+abbrev μ-loop : tie.MeasureT-loop
+μ-loop bytes others₀ i₀ others i = length bytes - i
+
+loop-holds : tie.Need-loop-holds Inv-loop μ-loop
+loop-holds c = (omega arith, faults-first)
+
+shared-slice-read-if1 : tie.Need-shared-slice-read-if1 Inv-loop μ-loop
+shared-slice-read-if1 c = search needs
+
+add-others : tie.Need-add-others Inv-loop μ-loop
+add-others c = search needs
+
+add-i : tie.Need-add-i Inv-loop μ-loop
+add-i c = search needs
+
+loop-less : tie.Need-loop-less Inv-loop μ-loop
+loop-less c = search needs
+
+loop-again : tie.Need-loop-again Inv-loop μ-loop
+loop-again c = let l = c .before .before .before in
+    (omega arith, ⊎-elim (λ w. rw (w .1) (faults-broken (w .0 .taken) (l .loop .inv .1))) (λ w. rw (w .1) (faults-kept (w .0 .left) (l .loop .inv .1))) (c .if1 .came))
+
+returns : tie.Need-returns Inv-loop μ-loop
+returns c = let l = c .before in
+    let e : l .loop .i ≡ length (l .before .args .bytes .now) = omega (arith, l .loop .inv .0, c .loop-test .left) in
+    rw (← e) (faults-all (l .loop .inv .1))
+
+pub zero-spec : {M : Type 1} → statement M
+zero-spec =
+    tie.close
+    (tie.spec
+    Inv-loop
+    μ-loop
+    loop-holds
+    shared-slice-read-if1
+    add-others
+    add-i
+    loop-less
+    loop-again
+    returns)
