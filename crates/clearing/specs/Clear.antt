@@ -12,13 +12,10 @@ use Rattle.faults.specs.Faults.{Below}
 use Rattle.bits.specs.Bits.{has}
 use Rattle.trees.specs.declared.Tree.{Tree}
 use Rattle.trees.specs.Trees.{Table, InUse}
+use Rattle.kinds.specs.Kinds.{AtMost}
 use Rattle.nearing.specs.Near.{Near}
 use Rattle.table.specs.Rules.{slot, Judging, ReadAt, here, above}
 use Rattle.table.specs.Laws.{read-own, met-read}
-
--- node n is no ghost
-abbrev pub Lively : List ℕ → ℕ → Type 0
-Lively state n = at state n ≤ 1
 
 -- entry i is free, or what is near its node has no mark at its row
 abbrev pub Clear : List ℕ → Table → List ℕ → ℕ → Type 0
@@ -37,7 +34,7 @@ clear-mark near e marks i false z h = inr (sym h)
 
 module _ (t : Tree) (e : Table) (marks : List ℕ) (h : Judging t e marks) where
   -- where no node is a ghost, every exception is read by its own node
-  pub lively-read : Below (Lively (t .state)) 128 → (i : ℕ) → i < length (e .node) → ReadAt t e i
+  pub lively-read : Below (AtMost (t .state) 1) 128 → (i : ℕ) → i < length (e .node) → ReadAt t e i
   lively-read a i l z = let (u, b) = h .excepting .named i l z in read-own t e marks h i l (omega (arith, a _ (u .0), u .1)) z
 
   -- what is clear is read

@@ -2,13 +2,12 @@
 ghost use Prim.Native.Nat.{_<_};
 ghost use lib.ListN.{length};
 ghost use Rattle.basics.specs.Decide.{Decides};
-ghost use Rattle.faults.specs.Faults.{Below};
 ghost use Rattle.trees.specs.Trees.{treeOf, tableOf};
 ghost use Rattle.trees.specs.Rules.{AllRead};
 ghost use Rattle.listing.specs.Listed.{Listed};
 ghost use Rattle.nearing.specs.Near.{Near};
 ghost use Rattle.table.specs.Rules.{Nodes, Judging, ReadAt};
-ghost use Rattle.clearing.specs.Clear.{Clear, ClearTo, Lively};
+ghost use Rattle.clearing.specs.Clear.{Clear, ClearTo};
 use measures::Row;
 
 // Is entry i clear: is it free, or has what is near its node no mark at its row?
@@ -123,21 +122,6 @@ fn rest_read<'a>(
     true
 }
 
-// Is no node a ghost? The count is never left early: so the compiler takes many nodes at once.
-fn lively(state: &[u8; 128]) -> bool
-    ensures { λ b. ⌜ Decides b (Below (Lively (now (state .entry))) 128) ⌝ }
-{
-    let mut ghosts: u8 = 0;
-    let mut n: usize = 0;
-    while n < 128 {
-        if state[n] > 1 {
-            ghosts += 1;
-        }
-        n += 1;
-    }
-    ghosts == 0
-}
-
 // Rule 7, of a table that meets rule 6. The nodes' children are looked up only if some entry is not clear.
 pub fn all_read<'a>(
     state: &'a [u8; 128],
@@ -152,7 +136,7 @@ pub fn all_read<'a>(
     requires { ⌜ Listed (now state) (now used) × Judging (treeOf (now state) (now tag) (now parent)) (tableOf rows (now node) (now row)) (now marks) ⌝ }
     ensures { λ b. ⌜ Decides b (AllRead (treeOf (now (state .entry)) (now (tag .entry)) (now (parent .entry))) (tableOf rows (now (node .entry)) (now (row .entry)))) ⌝ }
 {
-    if lively(state) {
+    if kinds::at_most(state, 1) {
         return true;
     }
     let near = nearing::near(state, tag, parent, used);

@@ -11,9 +11,9 @@ use Rattle.trees.specs.declared.Tree.{Tree}
 use Rattle.trees.specs.Trees.{up}
 use Rattle.trees.specs.Rules.{States}
 
--- node n has one of the three states; it has a parent only if it is in use, and a tag only if it is alive
-abbrev pub Kind : List ℕ → ℕ → Type 0
-Kind state n = at state n ≤ 2
+-- the state of node n is at most a number, 2 for any; the node has a parent only if it is in use, and a tag only if it is alive
+abbrev pub AtMost : List ℕ → ℕ → ℕ → Type 0
+AtMost state most n = at state n ≤ most
 
 abbrev pub Hung : List ℕ → List ℕ → ℕ → Type 0
 Hung state parent n = at state n ≡ 0 → at parent n ≡ 0
@@ -22,7 +22,7 @@ abbrev pub Named : List ℕ → List ℕ → ℕ → Type 0
 Named state tag n = at state n ≢ 1 → at tag n ≡ 0
 
 module _ (t : Tree) where
-  pub states-of : (at (t .state) 0 ≡ 1) × (at (t .tag) 0 ≡ 0) × (up t 0 ≡ 0) → Below (Kind (t .state)) 128 → Below (Hung (t .state) (t .parent)) 128 → Below (Named (t .state) (t .tag)) 128 → States t
+  pub states-of : (at (t .state) 0 ≡ 1) × (at (t .tag) 0 ≡ 0) × (up t 0 ≡ 0) → Below (AtMost (t .state) 2) 128 → Below (Hung (t .state) (t .parent)) 128 → Below (Named (t .state) (t .tag)) 128 → States t
   states-of r k h g = record {
     kinds = k;
     root = r;

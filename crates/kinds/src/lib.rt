@@ -5,16 +5,16 @@ ghost use Rattle.basics.specs.Decide.{Decides};
 ghost use Rattle.faults.specs.Faults.{Below};
 ghost use Rattle.trees.specs.Trees.{treeOf};
 ghost use Rattle.trees.specs.Rules.{States};
-ghost use Rattle.kinds.specs.Kinds.{Kind, Hung, Named};
+ghost use Rattle.kinds.specs.Kinds.{AtMost, Hung, Named};
 
-// Has every node one of the three states?
-fn kinds(state: &[u8; 128]) -> bool
-    ensures { λ r. ⌜ Decides r (Below (Kind (now (state .entry))) 128) ⌝ }
+// Is no state above a number?
+pub fn at_most(state: &[u8; 128], most: u8) -> bool
+    ensures { λ r. ⌜ Decides r (Below (AtMost (now (state .entry)) most) 128) ⌝ }
 {
     let mut wrong: u8 = 0;
     let mut n: usize = 0;
     while n < 128 {
-        if state[n] > 2 {
+        if state[n] > most {
             wrong += 1;
         }
         n += 1;
@@ -91,7 +91,7 @@ pub fn states<'a>(state: &'a [u8; 128], tag: &'a [u16; 128], parent: &'a [u8; 12
     if parent[0] != 0 {
         return false;
     }
-    if !kinds(state) {
+    if !at_most(state, 2) {
         return false;
     }
     if !hung(state, parent) {

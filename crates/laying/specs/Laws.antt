@@ -5,10 +5,11 @@ use mathlib.Core.List.{List, [], _∷_, _++_, append-assoc}
 use Prim.Native.Nat.{ℕ, zero, suc, _+_, _-_, _*_, _≤_, _<_}
 use native.Mathlib.Decide.{ℕ-discrete, decLt}
 use native.Mathlib.Omega.{arith}
-use lib.ListN.{length, take, drop, set, length-append, length-take, length-drop, length-set, take-append-drop, replicate, length-replicate, getD-replicate, List·getD-eq-default}
+use lib.ListN.{length, take, drop, set, length-append, length-drop, length-set, take-append-drop, replicate, length-replicate, getD-replicate, List·getD-eq-default}
 use lib.Seq.{length-take-le, take-at, drop-at, drop-drop, set-split, take-suc, take-all, ext-getD, getD-set-same, getD-set-other, getD-take, getD-drop}
 use Rattle.basics.specs.Decide.{at}
 use Rattle.faults.specs.Faults.{Below}
+use Rattle.scanning.specs.Zero.{Zero, ZeroFrom, zero-part}
 use Rattle.laying.specs.Laid.{laid, Lays, twos, highByte, lowByte, pairs, numbers, pairAt}
 
 module _ (b : List ℕ) (p : ℕ) (t : List ℕ) (m : p + length t ≤ length b) where
@@ -175,10 +176,6 @@ Same xs ys i = (k : ℕ) → i ≤ k → at ys k ≡ at xs k
 pub zeros-at : (n k : ℕ) → at (replicate n 0) k ≡ 0
 zeros-at n k = by-cases (decLt k n) (λ l. getD-replicate {A = ℕ} n k 0 0 l) (λ l. List·getD-eq-default (replicate n 0) 0 {n = k} (omega (arith, length-replicate {A = ℕ} n 0)))
 
--- byte k is 0
-abbrev pub Zero : List ℕ → ℕ → Type 0
-Zero bytes k = at bytes k ≡ 0
-
 -- past numbers that are 0 and are there already
 pub load-past : (bytes to : List ℕ) (i j : ℕ) → i ≤ j → j ≤ length to → (let part = take (2 * j - 2 * i) (drop (2 * i) bytes) in Below (Zero part) (length part)) → ((k : ℕ) → i ≤ k → at to k ≡ 0) → Loading bytes to i → Loading bytes to j
 load-past bytes to i j l m f z c = record {
@@ -187,12 +184,8 @@ load-past bytes to i j l m f z c = record {
   same = λ k b. by-cases (decLt k i) (λ h. c .same k h) (λ h. z k (omega arith) ∙ sym (let e = byte (2 * k) (omega arith) (omega arith) in let g = byte (2 * k + 1) (omega arith) (omega arith) in rw (e, g)));
 }
   where
-    byte : (k : ℕ) → 2 * i ≤ k → k < 2 * j → at bytes k ≡ 0
-    byte k a b =
-        ap (at bytes) (let d : k ≡ 2 * i + (k - 2 * i) = omega arith in d)
-        ∙ sym (getD-drop (2 * i) bytes (k - 2 * i) 0)
-        ∙ sym (getD-take (2 * j - 2 * i) (drop (2 * i) bytes) (k - 2 * i) 0 (omega arith))
-        ∙ f (k - 2 * i) (simp (length-take, length-drop) (omega (arith, c .size)))
+    byte : ZeroFrom bytes (2 * i) (2 * j)
+    byte = zero-part bytes (2 * i) (2 * j) (omega (arith, c .size)) .0 f
 
 pub load-next : (bytes to : List ℕ) (i x : ℕ) → i < length to → x ≡ pairAt bytes (2 * i) → Loading bytes to i → Loading bytes (set to i x) (i + 1)
 load-next bytes to i x l e c = record {

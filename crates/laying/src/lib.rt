@@ -4,10 +4,8 @@ ghost use mathlib.Core.Path.{_≡_};
 ghost use mathlib.Core.List.{[], _∷_};
 ghost use Prim.Native.Nat.{_+_, _*_, _/_, _%_, _≤_, _<_};
 ghost use lib.ListN.{length, replicate};
-ghost use Rattle.basics.specs.Decide.{Decides};
-ghost use Rattle.faults.specs.Faults.{Below};
 ghost use Rattle.laying.specs.Laid.{Lays, pairs, numbers, pairAt};
-ghost use Rattle.laying.specs.Laws.{Loading, Same, Zero};
+ghost use Rattle.laying.specs.Laws.{Loading, Same};
 
 pub fn put(out: &mut [u8], at: usize, byte: u8) -> usize
     requires { ⌜ at < length (now out) ⌝ }
@@ -102,22 +100,6 @@ pub fn load_numbers(bytes: &[u8], to: &mut [u16])
     load_stretch(bytes, to, 0, end);
 }
 
-// Are a few bytes all 0? All are looked at, and none is left early: so the compiler takes many at once.
-fn zero(bytes: &[u8]) -> bool
-    requires { ⌜ length (now bytes) ≤ 32 ⌝ }
-    ensures { λ b. ⌜ Decides b (Below (Zero (now (bytes .entry))) (length (now (bytes .entry)))) ⌝ }
-{
-    let mut others: u8 = 0;
-    let mut i: usize = 0;
-    while i < bytes.len() {
-        if bytes[i] != 0 {
-            others += 1;
-        }
-        i += 1;
-    }
-    others == 0
-}
-
 // Every number of the bytes, of which most are 0, as those are that are there: stretches of 16 numbers that are 0 are passed as a whole.
 pub fn load_few(bytes: &[u8], to: &mut [u16])
     requires { ⌜ (length (now bytes) ≡ 256) × (length (now to) ≡ 128) × Same (replicate 128 0) (now to) 0 ⌝ }
@@ -128,7 +110,7 @@ pub fn load_few(bytes: &[u8], to: &mut [u16])
         let end = n + 16;
         let first = 2 * n;
         let last = 2 * end;
-        if !zero(&bytes[first..last]) {
+        if !scanning::zero(&bytes[first..last]) {
             load_stretch(bytes, to, n, end);
         }
         n = end;

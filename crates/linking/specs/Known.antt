@@ -1,6 +1,6 @@
 -- Nodes that are known to reach node 0. Assumes nothing.
 use mathlib.Core.Path.{_≡_, sym, _∙_, ap}
-use mathlib.Core.Logic.{_≢_, by-cases}
+use mathlib.Core.Logic.{_≢_, _⊎_, by-cases, ⊎-elim}
 use mathlib.Core.List.{List}
 use Prim.Native.Nat.{ℕ, zero, suc, _+_, _<_}
 use native.Mathlib.Decide.{ℕ-discrete}
@@ -33,6 +33,12 @@ module _ (t : Tree) where
     where
       new : at (set known n 1) n ≡ 1
       new = getD-set-same known n 1 0 (omega (arith, k .size))
+
+  -- what is known stays known
+  pub known-stays : (known : List ℕ) (m n : ℕ) → m < 128 → Known t known → (n ≡ m) ⊎ (at known n ≢ 0) → at (set known m 1) n ≢ 0
+  known-stays known m n l k h z = by-cases (ℕ-discrete n m)
+      (λ e. omega (arith, z, ap (at (set known m 1)) e ∙ getD-set-same known m 1 0 (omega (arith, k .size))))
+      (λ e. ⊎-elim e (λ x. x (sym (getD-set-other known m n 1 0 e) ∙ z)) h)
 
   pub known-first : Known t (set (replicate 128 0) 0 1)
   known-first = record {

@@ -1,6 +1,6 @@
 // Rule 3 of SPEC 4: every node in use but node 0 has a parent in use, and all reach node 0.
-ghost use mathlib.Core.Path.{_≡_};
-ghost use Rattle.basics.specs.Decide.{Decides};
+ghost use mathlib.Core.Logic.{_≢_};
+ghost use Rattle.basics.specs.Decide.{Decides, at};
 ghost use Rattle.trees.specs.Trees.{treeOf, up, Reaches};
 ghost use Rattle.trees.specs.Rules.{Linked};
 ghost use Rattle.tree.specs.Rules.{Parents, Climbs};
@@ -40,7 +40,7 @@ fn mark<'a>(
 )
     requires { ⌜ Climbs (treeOf (now state) (now tag) (now parent)) n × Reaches (up (treeOf (now state) (now tag) (now parent))) n
         × Known (treeOf (now state) (now tag) (now parent)) (now known) ⌝ }
-    ensures { λ r. ⌜ Known (treeOf (now (state .entry)) (now (tag .entry)) (now (parent .entry))) (now (known .exit)) ⌝ }
+    ensures { λ r. ⌜ Known (treeOf (now (state .entry)) (now (tag .entry)) (now (parent .entry))) (now (known .exit)) × (at (now (known .exit)) n ≢ 0) ⌝ }
 {
     let mut m = n;
     let mut steps: usize = 0;

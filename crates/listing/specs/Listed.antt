@@ -1,14 +1,15 @@
 -- A list of the nodes in use, and how it grows. Assumes nothing.
 use mathlib.Core.Path.{_≡_, refl, sym, _∙_, ap}
-use mathlib.Core.Logic.{_≢_, _↔_, by-cases}
+use mathlib.Core.Logic.{_≢_, by-cases}
 use mathlib.Core.List.{List}
-use Prim.Native.Nat.{ℕ, _+_, _-_, _≤_, _<_}
+use Prim.Native.Nat.{ℕ, _+_, _≤_, _<_}
 use native.Mathlib.Decide.{ℕ-discrete, decLt}
 use native.Mathlib.Omega.{arith}
-use lib.ListN.{length, set, take, drop, length-set, length-take, length-drop}
-use lib.Seq.{getD-set-same, getD-set-other, getD-take, getD-drop, length-take-le}
+use lib.ListN.{length, set, take, length-set}
+use lib.Seq.{getD-set-same, getD-set-other, getD-take, length-take-le}
 use Rattle.basics.specs.Decide.{at}
 use Rattle.faults.specs.Faults.{Below}
+use Rattle.scanning.specs.Zero.{ZeroFrom}
 
 -- the nodes other than node 0 whose state is not 0, each once
 pub record Listed (state xs : List ℕ) : Type 0 where
@@ -86,25 +87,8 @@ listed-of state xs k h = record {
     same : (j : ℕ) → j < k → at (take k xs) j ≡ at xs j
     same j l = getD-take k xs j 0 l
 
--- node n is not in use
-abbrev pub Idle : List ℕ → ℕ → Type 0
-Idle state n = at state n ≡ 0
-
--- no node from n on, up to another, is in use
-abbrev pub IdleFrom : List ℕ → ℕ → ℕ → Type 0
-IdleFrom state n to = (m : ℕ) → n ≤ m → m < to → at state m ≡ 0
-
-pub idle-part : (state : List ℕ) (n to : ℕ) → to ≤ length state → (let part = take (to - n) (drop n state) in Below (Idle part) (length part) ↔ IdleFrom state n to)
-idle-part state n to t = (
-  λ f m a b. ap (at state) (let d : m ≡ n + (m - n) = omega arith in d) ∙ sym (same (m - n) (omega arith)) ∙ f (m - n) (simp (length-take, length-drop) (omega arith)),
-  λ f k l. let b : k < to - n = omega (arith, simp (length-take, length-drop) at l) in same k b ∙ f (n + k) (omega arith) (omega arith),
-)
-  where
-    same : (k : ℕ) → k < to - n → at (take (to - n) (drop n state)) k ≡ at state (n + k)
-    same k l = getD-take (to - n) (drop n state) k 0 l ∙ getD-drop n state k 0
-
 -- past a stretch whose nodes are all not in use
-pub listing-idle : (state xs : List ℕ) (k n to : ℕ) → n ≤ to → IdleFrom state n to → Listing state xs k n → Listing state xs k to
+pub listing-idle : (state xs : List ℕ) (k n to : ℕ) → n ≤ to → ZeroFrom state n to → Listing state xs k n → Listing state xs k to
 listing-idle state xs k n to l f = listing-past state xs k n to l (λ m a b z u. u (f m a b))
 
 -- what holds at every position of the list holds of every node in use

@@ -3,32 +3,16 @@ ghost use mathlib.Core.Path.{_≡_};
 ghost use Prim.Native.Nat.{_+_, _≤_};
 ghost use lib.ListN.{length, take};
 ghost use Rattle.basics.specs.Decide.{Decides};
-ghost use Rattle.faults.specs.Faults.{Below};
-ghost use Rattle.listing.specs.Listed.{Listed, Listing, Idle, IdleFrom};
-
-// Is none of a few nodes in use? All are looked at, and none is left early: so the compiler takes many at once.
-fn idle(part: &[u8]) -> bool
-    requires { ⌜ length (now part) ≤ 16 ⌝ }
-    ensures { λ b. ⌜ Decides b (Below (Idle (now (part .entry))) (length (now (part .entry)))) ⌝ }
-{
-    let mut busy: u8 = 0;
-    let mut n: usize = 0;
-    while n < part.len() {
-        if part[n] != 0 {
-            busy += 1;
-        }
-        n += 1;
-    }
-    busy == 0
-}
+ghost use Rattle.scanning.specs.Zero.{ZeroFrom};
+ghost use Rattle.listing.specs.Listed.{Listed, Listing};
 
 // Is none of 16 nodes from node n on in use?
 pub fn idle_from(state: &[u8], n: usize) -> bool
     requires { ⌜ (length (now state) ≡ 128) × (n + 16 ≤ 128) ⌝ }
-    ensures { λ b. ⌜ Decides b (IdleFrom (now (state .entry)) n (n + 16)) ⌝ }
+    ensures { λ b. ⌜ Decides b (ZeroFrom (now (state .entry)) n (n + 16)) ⌝ }
 {
     let to = n + 16;
-    idle(&state[n..to])
+    scanning::zero(&state[n..to])
 }
 
 // The nodes in use from one node to another join the list, which has k already.

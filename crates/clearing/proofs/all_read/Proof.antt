@@ -6,13 +6,13 @@ use borrow.Author.Needs.{needs}
 use Rattle.clearing.proofs.all_read.Statement.{statement}
 use Rattle.clearing.proofs.all_read.Tie as tie
 
-lively-requires : tie.Need-lively-requires
-lively-requires c κs = search needs
+at-most-requires : tie.Need-at-most-requires
+at-most-requires c κs = search needs
 
 returns : tie.Need-returns
 returns c = let a = c .before in
     let s = a .before .before .before .before .before in
-    lively-read _ _ _ (s .pre .1) (holds (a .lively .result) (a .lively .ensures) (c .if1 .taken))
+    lively-read _ _ _ (s .pre .1) (holds (a .at-most .result) (a .at-most .ensures) (c .if1 .taken))
 
 near-requires : tie.Need-near-requires
 near-requires c κs = let p = c .before .before .before .before .before .before .pre in (λ n l. p .1 .fitting .linked .parent n, p .0)
@@ -39,7 +39,7 @@ pub all-read-spec : {M : Type 1} → statement M
 all-read-spec =
     tie.close
     (tie.spec
-    lively-requires
+    at-most-requires
     returns
     near-requires
     clear-to-requires

@@ -24,11 +24,11 @@ element-copy-out-if3 c = search needs
 returns-3 : tie.Need-returns-3
 returns-3 c = search needs
 
-kinds-requires : tie.Need-kinds-requires
-kinds-requires c κs = search needs
+at-most-requires : tie.Need-at-most-requires
+at-most-requires c κs = search needs
 
 returns-4 : tie.Need-returns-4
-returns-4 c = λ s. failed (c .before .kinds .result) (c .before .kinds .ensures) (c .if4 .taken) (s .kinds)
+returns-4 c = λ s. failed (c .before .at-most .result) (c .before .at-most .ensures) (c .if4 .taken) (s .kinds)
 
 hung-requires : tie.Need-hung-requires
 hung-requires c κs = search needs
@@ -45,7 +45,7 @@ returns-6 c = λ s. failed (c .before .named .result) (c .before .named .ensures
 returns-7 : tie.Need-returns-7
 returns-7 c = let h = c .before .before in
     let k = h .before .before in
-    states-of _ (search needs) (passed (k .before .kinds .result) (k .before .kinds .ensures) (k .if4 .left)) (passed (h .before .hung .result) (h .before .hung .ensures) (h .if5 .left))
+    states-of _ (search needs) (passed (k .before .at-most .result) (k .before .at-most .ensures) (k .if4 .left)) (passed (h .before .hung .result) (h .before .hung .ensures) (h .if5 .left))
     (passed (c .before .named .result) (c .before .named .ensures) (c .if6 .left))
 
 pub states-spec : {M : Type 1} → statement M
@@ -58,7 +58,7 @@ states-spec =
     returns-2
     element-copy-out-if3
     returns-3
-    kinds-requires
+    at-most-requires
     returns-4
     hung-requires
     returns-5

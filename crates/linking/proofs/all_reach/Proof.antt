@@ -69,7 +69,7 @@ loop-again c = let m = c .before in
     let e = m .before .before in
     let b = e .before .before .before in
     let v = b .before .before .before .loop .inv in
-    (omega arith, below-more _ _ (v .1) (rw (← b .byte .ensures) (passed (e .before .reaches .result) (e .before .reaches .ensures) (e .if1 .left))), m .mark .ensures)
+    (omega arith, below-more _ _ (v .1) (rw (← b .byte .ensures) (passed (e .before .reaches .result) (e .before .reaches .ensures) (e .if1 .left))), m .mark .ensures .0)
 
 returns-2 : tie.Need-returns-2 Inv-loop μ-loop
 returns-2 c = λ n z u.

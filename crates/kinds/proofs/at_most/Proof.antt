@@ -1,19 +1,19 @@
--- `clearing::lively` meets its contract: ghosts are counted. Assumes nothing.
+-- `kinds::at_most` meets its contract: states above it are counted. Assumes nothing.
 use borrow.Author.Needs.{needs}
 use Prim.Native.Nat.{_≤_, _-_}
 use mathlib.Core.Path.{_≡_}
 use mathlib.Core.Logic.{⊎-elim}
 use native.Mathlib.Omega.{arith}
 use Rattle.faults.specs.Faults.{Faults, faults-first, faults-kept, faults-broken, faults-all}
-use Rattle.clearing.specs.Clear.{Lively}
-use Rattle.clearing.proofs.lively.Statement.{statement}
-use Rattle.clearing.proofs.lively.Tie as tie
+use Rattle.kinds.specs.Kinds.{AtMost}
+use Rattle.kinds.proofs.at_most.Statement.{statement}
+use Rattle.kinds.proofs.at_most.Tie as tie
 
 abbrev Inv-loop : tie.InvT-loop
-Inv-loop state ghosts₀ n₀ ghosts n = (n ≤ 128) × Faults (Lively state) n ghosts
+Inv-loop state most wrong₀ n₀ wrong n = (n ≤ 128) × Faults (AtMost state most) n wrong
 
 abbrev μ-loop : tie.MeasureT-loop
-μ-loop state ghosts₀ n₀ ghosts n = 128 - n
+μ-loop state most wrong₀ n₀ wrong n = 128 - n
 
 loop-holds : tie.Need-loop-holds Inv-loop μ-loop
 loop-holds c = (omega arith, faults-first)
@@ -21,8 +21,8 @@ loop-holds c = (omega arith, faults-first)
 element-copy-out-if1 : tie.Need-element-copy-out-if1 Inv-loop μ-loop
 element-copy-out-if1 c = search needs
 
-add-ghosts : tie.Need-add-ghosts Inv-loop μ-loop
-add-ghosts c = search needs
+add-wrong : tie.Need-add-wrong Inv-loop μ-loop
+add-wrong c = search needs
 
 add-n : tie.Need-add-n Inv-loop μ-loop
 add-n c = search needs
@@ -39,15 +39,15 @@ returns c = let l = c .before in
     let e : l .loop .n ≡ 128 = omega (arith, l .loop .inv .0, c .loop-test .left) in
     rw (← e) (faults-all (l .loop .inv .1))
 
-pub lively-spec : {M : Type 1} → statement M
-lively-spec =
+pub at-most-spec : {M : Type 1} → statement M
+at-most-spec =
     tie.close
     (tie.spec
     Inv-loop
     μ-loop
     loop-holds
     element-copy-out-if1
-    add-ghosts
+    add-wrong
     add-n
     loop-less
     loop-again

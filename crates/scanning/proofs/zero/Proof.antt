@@ -1,4 +1,4 @@
--- `laying::zero` meets its contract: bytes other than 0 are counted. Assumes nothing.
+-- `scanning::zero` meets its contract: bytes other than 0 are counted. Assumes nothing.
 use borrow.Author.Needs.{needs}
 use Prim.Native.Nat.{_≤_, _-_}
 use mathlib.Core.Path.{_≡_}
@@ -6,9 +6,9 @@ use mathlib.Core.Logic.{⊎-elim}
 use native.Mathlib.Omega.{arith}
 use lib.ListN.{length}
 use Rattle.faults.specs.Faults.{Faults, faults-first, faults-kept, faults-broken, faults-all}
-use Rattle.laying.specs.Laws.{Zero}
-use Rattle.laying.proofs.zero.Statement.{statement}
-use Rattle.laying.proofs.zero.Tie as tie
+use Rattle.scanning.specs.Zero.{Zero}
+use Rattle.scanning.proofs.zero.Statement.{statement}
+use Rattle.scanning.proofs.zero.Tie as tie
 
 abbrev Inv-loop : tie.InvT-loop
 Inv-loop bytes others₀ i₀ others i = (i ≤ length bytes) × Faults (Zero bytes) i others
