@@ -36,20 +36,20 @@ module _ (t : Tree) (v : ℕ) (xs : List ℕ) where
   passing-first e = record { size = e; met = λ marks g r m. inr m }
 
   -- node m gets its number, and the way goes on above it
-  pub passing-next : (m : ℕ) → m < 128 → Passing t v xs m → Passing t v (set xs m 1) (up t m)
-  passing-next m l p = record {
-    size = length-set xs m 1 ∙ p .size;
+  pub passing-next : (m x : ℕ) → m < 128 → x ≢ 0 → Passing t v xs m → Passing t v (set xs m x) (up t m)
+  passing-next m x l y p = record {
+    size = length-set xs m x ∙ p .size;
     met = λ marks g r h. ⊎-elim (λ z. inl (kept g z)) (λ d. over marks g r d refl) (p .met marks g r h);
   }
     where
-      new : at (set xs m 1) m ≡ 1
-      new = getD-set-same xs m 1 0 (omega (arith, p .size))
+      new : at (set xs m x) m ≡ x
+      new = getD-set-same xs m x 0 (omega (arith, p .size))
 
-      kept : (g : ℕ) → at xs g ≢ 0 → at (set xs m 1) g ≢ 0
-      kept g z = by-cases (ℕ-discrete g m) (λ e x. omega (arith, x, ap (at (set xs m 1)) e ∙ new)) (λ e x. z (sym (getD-set-other xs m g 1 0 e) ∙ x))
+      kept : (g : ℕ) → at xs g ≢ 0 → at (set xs m x) g ≢ 0
+      kept g z = by-cases (ℕ-discrete g m) (λ e q. y (sym (ap (at (set xs m x)) e ∙ new) ∙ q)) (λ e q. z (sym (getD-set-other xs m g x 0 e) ∙ q))
 
-      over : (marks : List ℕ) (g r : ℕ) {n : ℕ} → Meets t marks r g n → n ≡ m → (at (set xs m 1) g ≢ 0) ⊎ Meets t marks r g (up t m)
-      over marks g r (here e) q = inl (λ x. omega (arith, x, ap (at (set xs m 1)) (sym e ∙ q) ∙ new))
+      over : (marks : List ℕ) (g r : ℕ) {n : ℕ} → Meets t marks r g n → n ≡ m → (at (set xs m x) g ≢ 0) ⊎ Meets t marks r g (up t m)
+      over marks g r (here e) q = inl (λ w. y (sym (ap (at (set xs m x)) (sym e ∙ q) ∙ new) ∙ w))
       over marks g r (above a z f d) q = inr (rw (← q) d)
 
   -- a living node above v reads what v read there

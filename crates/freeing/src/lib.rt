@@ -8,6 +8,7 @@ ghost use Rattle.listing.specs.Listed.{Listed};
 ghost use Rattle.table.specs.Rules.{Judging, Nodes};
 ghost use Rattle.asking.specs.Asking.{Childless};
 ghost use Rattle.affecting.specs.Affected.{Affected};
+ghost use Rattle.fencing.specs.Fenced.{Levelled};
 ghost use Rattle.removal.specs.Removal.{Freed};
 use guessing::Children;
 use measures::Row;
@@ -17,10 +18,12 @@ fn free_affected<'a>(
     state: &'a [u8; 128],
     tag: &'a [u16; 128],
     parent: &'a [u8; 128],
+    used: &'a [u8],
     others: &'a [u8; 128],
     first: &'a [u8; 128],
     after: &'a [u8; 128],
     affected: &'a [u8; 128],
+    sure: bool,
     leaf: bool,
     rows: usize,
     node: &mut [u8],
@@ -30,7 +33,8 @@ fn free_affected<'a>(
 )
     requires { ⌜ Snapshot (treeOf (now state) (now tag) (now parent)) v × Judging (treeOf (now state) (now tag) (now parent)) (tableOf rows (now node) (now row)) (now marks)
         × Nodes (now first) × Nodes (now after) × Affected (treeOf (now state) (now tag) (now parent)) v (now affected)
-        × (leaf ≡ true → Childless (treeOf (now state) (now tag) (now parent)) v) ⌝ }
+        × (leaf ≡ true → Childless (treeOf (now state) (now tag) (now parent)) v) × Listed (now state) (now used)
+        × (sure ≡ true → Levelled (treeOf (now state) (now tag) (now parent)) v (now affected)) ⌝ }
     ensures { λ x. ⌜ Freed (treeOf (now (state .entry)) (now (tag .entry)) (now (parent .entry))) (tableOf rows (now (node .entry)) (now (row .entry))) v
         (now (node .exit)) (now (row .exit)) ⌝ }
 {
@@ -39,13 +43,16 @@ fn free_affected<'a>(
         let g = widen::byte(node[i]);
         if affected[g] != 0 {
             let r = Row(widen::pair(row[i]));
-            if asking::alone(
+            if fencing::alone(
                 state,
                 tag,
                 parent,
+                used,
                 others,
                 first,
                 after,
+                affected,
+                sure,
                 marks,
                 v,
                 leaf,
@@ -106,14 +113,17 @@ pub fn free_alone<'a>(
     let affected = affecting::affected(state, tag, parent, v);
     let leaf = affecting::childless(state, tag, parent, v);
     let kin = kin_of(state, tag, parent, used, v, leaf);
+    let sure = fencing::levelled(state, tag, parent, used, &affected, v);
     free_affected(
         state,
         tag,
         parent,
+        used,
         others,
         &kin.first,
         &kin.after,
         &affected,
+        sure,
         leaf,
         rows,
         node,

@@ -12,10 +12,10 @@ use Rattle.freeing.proofs.free_affected.Statement.{statement}
 use Rattle.freeing.proofs.free_affected.Tie as tie
 
 abbrev Inv-loop : tie.InvT-loop
-Inv-loop state tag parent others first after affected leaf rows node₀ row₀ marks v i₀ node row i = FreedTo (treeOf state tag parent) (tableOf rows node₀ row₀) v i node row
+Inv-loop state tag parent used others first after affected sure leaf rows node₀ row₀ marks v i₀ node row i = FreedTo (treeOf state tag parent) (tableOf rows node₀ row₀) v i node row
 
 abbrev μ-loop : tie.MeasureT-loop
-μ-loop state tag parent others first after affected leaf rows node₀ row₀ marks v i₀ node row i = length node₀ - i
+μ-loop state tag parent used others first after affected sure leaf rows node₀ row₀ marks v i₀ node row i = length node₀ - i
 
 loop-holds : tie.Need-loop-holds Inv-loop μ-loop
 loop-holds c = freed-start _ _ _
@@ -30,7 +30,7 @@ element-copy-out-if1 : tie.Need-element-copy-out-if1 Inv-loop μ-loop
 element-copy-out-if1 c =
     let t = c .before .before in
     let d = t .before .loop .inv in
-    let p = t .before .before .before .before .before .pre in
+    let p = t .before .before .before .before .before .before .pre in
     let x = freed-next _ _ _ _ _ _ d in
     omega (arith, c .byte .ensures, x .0, node-low _ _ _ (p .1) _ (p .0) (t .before .loop .i) (omega (arith, t .loop-test .taken, d .nodes)))
 
@@ -41,19 +41,27 @@ slice-read-pair : tie.Need-slice-read-pair Inv-loop μ-loop
 slice-read-pair c =
     let t = c .before .before .before .before .before in
     let d = t .before .loop .inv in
-    omega (arith, t .loop-test .taken, d .nodes, d .rows, t .before .before .before .before .before .pre .1 .fitting .halves)
+    omega (arith, t .loop-test .taken, d .nodes, d .rows, t .before .before .before .before .before .before .pre .1 .fitting .halves)
 
 pair-requires : tie.Need-pair-requires Inv-loop μ-loop
 pair-requires c κs = search needs
 
 alone-requires : tie.Need-alone-requires Inv-loop μ-loop
 alone-requires c κs =
-    let b = c .before .before .before .before in
+    let i = c .before .before in
+    let b = i .before .before in
     let t = b .before .before in
     let d = t .before .loop .inv in
-    let p = t .before .before .before .before .before .pre in
-    let x = freed-next _ _ _ _ _ _ d in
-    (asking _ _ _ (p .1) _ (p .0) (t .before .loop .i) (omega (arith, t .loop-test .taken, d .nodes)) _ _ (b .byte .ensures ∙ x .0) (c .pair .ensures ∙ x .1), p .2, p .3, p .5)
+    let p = t .before .before .before .before .before .before .pre in
+    let x = freed-next _ _ _ _ _ _ d in (
+      asking _ _ _ (p .1) _ (p .0) (t .before .loop .i) (omega (arith, t .loop-test .taken, d .nodes)) _ _ (b .byte .ensures ∙ x .0) (c .pair .ensures ∙ x .1),
+      p .6,
+      p .2,
+      p .3,
+      p .5,
+      p .7,
+      i .if1 .taken,
+    )
 
 slice-write-node : tie.Need-slice-write-node Inv-loop μ-loop
 slice-write-node c = search needs
@@ -65,7 +73,7 @@ slice-write-row : tie.Need-slice-write-row Inv-loop μ-loop
 slice-write-row c =
     let t = c .before .before .before .before .before .before .before .before in
     let d = t .before .loop .inv in
-    omega (arith, t .loop-test .taken, d .nodes, d .rows, t .before .before .before .before .before .pre .1 .fitting .halves)
+    omega (arith, t .loop-test .taken, d .nodes, d .rows, t .before .before .before .before .before .before .pre .1 .fitting .halves)
 
 add-i : tie.Need-add-i Inv-loop μ-loop
 add-i c = search needs
@@ -80,7 +88,7 @@ loop-again c =
     let b = c .before .before in
     let t = b .before .before in
     let d = t .before .loop .inv in
-    let s = t .before .before .before .before .before in
+    let s = t .before .before .before .before .before .before in
     let p = s .pre in
     let i = t .before .loop .i in
     let x = freed-next _ _ _ _ _ _ d in

@@ -13,13 +13,25 @@ childless-requires c κs = search needs
 kin-of-requires : tie.Need-kin-of-requires
 kin-of-requires c κs = let p = c .before .before .before .before .before .before .pre in (λ n l. p .3 .fitting .linked .parent n, p .1, p .2)
 
+levelled-requires : tie.Need-levelled-requires
+levelled-requires c κs = let p = c .before .before .before .before .before .before .before .before .pre in (λ n l. p .3 .fitting .linked .parent n, p .2)
+
 free-affected-requires : tie.Need-free-affected-requires
 free-affected-requires c κs =
-    let k = c .before .before .before .before .before .before in
+    let s = c .before .before .before .before .before .before in
+    let k = s .before .before in
     let h = k .before in
     let a = h .before in
-    let p = a .before .before .before .before .before .pre in
-    (p .1, p .3, k .kin-of .ensures .0, k .kin-of .ensures .1, a .affected .ensures, λ x. holds (h .childless .result) (h .childless .ensures) x)
+    let p = a .before .before .before .before .before .pre in (
+      p .1,
+      p .3,
+      k .kin-of .ensures .0,
+      k .kin-of .ensures .1,
+      a .affected .ensures,
+      λ x. holds (h .childless .result) (h .childless .ensures) x,
+      p .2,
+      λ x. holds (s .levelled .result) (s .levelled .ensures) x,
+    )
 
 same-length : tie.Need-same-length
 same-length c = search needs
@@ -37,6 +49,7 @@ free-alone-spec =
     affected-requires
     childless-requires
     kin-of-requires
+    levelled-requires
     free-affected-requires
     same-length
     same-length-2
