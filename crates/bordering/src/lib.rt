@@ -23,7 +23,7 @@ pub fn border(
         (b .answer) (b .done)
         (held (b .tree) (now (node .exit)) (now (row .exit)) (now (places .exit))) ⌝ }
 {
-    if !soundness::sound(size, tree, node, row) {
+    if !soundness::sound(size, &tree.state, &tree.tag, &tree.parent, node, row) {
         return Bordered {
             answer: 20,
             done: 0,

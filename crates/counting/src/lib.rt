@@ -15,7 +15,7 @@ pub struct Counts {
 pub fn count<'a>(size: Size, tree: Tree, node: &'a [u8], row: &'a [u16]) -> Counts
     ensures { λ r. ⌜ CountEnds (recordsOf size tree (now (node .entry)) (now (row .entry))) (r .answer) (r .used) (r .snapshots) ⌝ }
 {
-    if !soundness::sound(size, tree, node, row) {
+    if !soundness::sound(size, &tree.state, &tree.tag, &tree.parent, node, row) {
         return Counts {
             answer: 20,
             used: 0,

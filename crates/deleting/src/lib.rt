@@ -53,7 +53,7 @@ fn delete_marked(
     requires { ⌜ Blank (size .rows) (now marks) ⌝ }
     ensures { λ w. ⌜ DeleteEnds (recordsOf size tree (now (node .entry)) (now (row .entry))) tag (w .answer) (left (w .tree) (now (node .exit)) (now (row .exit))) ⌝ }
 {
-    if !soundness::judged(size, tree, node, row, marks) {
+    if !soundness::judged(size, &tree.state, &tree.tag, &tree.parent, node, row, marks) {
         return Removed { answer: 20, tree };
     }
     if tag == 0 {

@@ -23,7 +23,7 @@ pub fn read<'a, 'b>(
         × ReadPart (recordsOf size tree (now (node .entry)) (now (row .entry))) (now (places .entry)) tag (r .0) (places .entry .ptr) (s .ptr) ⌝ }
 {
     *sharers = 0;
-    if !soundness::sound(size, tree, node, row) {
+    if !soundness::sound(size, &tree.state, &tree.tag, &tree.parent, node, row) {
         *answer = 20;
         return placing::nothing(places);
     }

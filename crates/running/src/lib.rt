@@ -36,7 +36,7 @@ pub fn run(
     ensures { λ r. ⌜ StreamEnds (recordsOf size tree (now (node .entry)) (now (row .entry))) (now (places .entry)) (now (stream .entry)) (now (out .entry))
         (r .answer) (recordsOf size (r .tree) (now (node .exit)) (now (row .exit))) (now (places .exit)) (now (out .exit)) (r .end) ⌝ }
 {
-    if !soundness::sound(size, tree, node, row) {
+    if !soundness::sound(size, &tree.state, &tree.tag, &tree.parent, node, row) {
         return refused(20, tree);
     }
     if places.len() != size.places * size.width {

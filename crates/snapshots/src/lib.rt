@@ -22,7 +22,7 @@ pub fn snapshot<'a>(
 ) -> Snapped
     ensures { λ r. ⌜ SnapshotEnds (recordsOf size tree (now (node .entry)) (now (row .entry))) source new (r .answer) (r .tree) ⌝ }
 {
-    if !soundness::sound(size, tree, node, row) {
+    if !soundness::sound(size, &tree.state, &tree.tag, &tree.parent, node, row) {
         return Snapped { answer: 20, tree };
     }
     if new == 0 {

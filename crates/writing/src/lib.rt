@@ -56,7 +56,7 @@ pub fn write(
     ensures { λ w. ⌜ WriteEnds (recordsOf size tree (now (node .entry)) (now (row .entry))) (now (places .entry)) tag (r .0) (now (bytes .entry)) (w .answer)
         (held (w .tree) (now (node .exit)) (now (row .exit)) (now (places .exit))) ⌝ }
 {
-    if !soundness::sound(size, tree, node, row) {
+    if !soundness::sound(size, &tree.state, &tree.tag, &tree.parent, node, row) {
         return Written { answer: 20, tree };
     }
     if places.len() != size.places * size.width {

@@ -16,7 +16,7 @@ use Rattle.bordering.proofs.border.Statement.{statement}
 use Rattle.bordering.proofs.border.Tie as tie
 
 abbrev begun : tie.Else1 → tie.Start
-begun c = c .before .before .before .before .before .before .before .before .before
+begun c = c .before .before .before .before .before .before .before .before .before .before .before .before .before
 
 judged : (c : tie.Else1) → (let a = begun c .args in Sound (recordsOf (a .size) (a .t2) (a .node .now) (a .row .now)))
 judged c = passed (c .before .sound .result) (c .before .sound .ensures) (c .if1 .left)

@@ -10,7 +10,7 @@ use Rattle.basics.specs.Decide.{passed, failed}
 use Rattle.counting.proofs.count.Statement.{statement}
 use Rattle.counting.proofs.count.Tie as tie
 
-judged : (c : tie.Else1) → (let a = c .before .before .before .before .args in Sound (recordsOf (a .size) (a .t2) (a .node .now) (a .row .now)))
+judged : (c : tie.Else1) → (let a = c .before .before .before .before .before .before .before .before .args in Sound (recordsOf (a .size) (a .t2) (a .node .now) (a .row .now)))
 judged c = passed (c .before .sound .result) (c .before .sound .ensures) (c .if1 .left)
 
 sound-requires : tie.Need-sound-requires

@@ -14,16 +14,20 @@ use Rattle.basics.specs.Decide.{passed, failed}
 use Rattle.deleting.proofs.delete_marked.Statement.{statement}
 use Rattle.deleting.proofs.delete_marked.Tie as tie
 
-judged : (c : tie.Else1) → (let a = c .before .before .before .before .before .before .before .before .before .before .args in Sound (recordsOf (a .size) (a .t2) (a .node .now) (a .row .now)))
+-- the start, from where the records are known to be sound
+abbrev start : tie.Else1 → tie.Start
+start c = c .before .before .before .before .before .before .before .before .before .before .before .before .before .before
+
+judged : (c : tie.Else1) → (let a = start c .args in Sound (recordsOf (a .size) (a .t2) (a .node .now) (a .row .now)))
 judged c = let j = c .before .before .before .judged in passed (j .result) (j .ensures .decided) (c .if1 .left)
 
 -- where the version was found: the way there, and the version
 abbrev early : tie.After-known-told → tie.Else2
 early c = c .before .before .before .before .before .before .before .before
 
-known : (c : tie.After-known-told) → (let a = early c .before .before .before .before .before .before .before .before .before .before .before .args in version (a .t2) (a .tag) ≡ some (c .before .found .given .0 .0))
+known : (c : tie.After-known-told) → (let a = start (early c .before) .args in version (a .t2) (a .tag) ≡ some (c .before .found .given .0 .0))
 known c =
-    let a = early c .before .before .before .before .before .before .before .before .before .before .before .args in
+    let a = start (early c .before) .args in
     found-at (version (a .t2) (a .tag)) _ (sym (c .before .found .given .1) ∙ c .before .before .before .version .ensures)
 
 judged-requires : tie.Need-judged-requires
@@ -48,7 +52,7 @@ returns-3 : tie.Need-returns-3
 returns-3 c =
     let v = c .before .before in
     let e = v .before .before .before .before .before in
-    let a = e .before .before .before .before .before .before .before .before .before .before .before .args in
+    let a = start (e .before) .args in
     judged-sound (judged (e .before)) (leaves-refused unknown-tag (tag-refused _ _ (e .if2 .left) (found-missing (version (a .t2) (a .tag)) (sym (c .enum-told .given .1) ∙ v .version .ensures))))
 
 remove-requires : tie.Need-remove-requires

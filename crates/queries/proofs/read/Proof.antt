@@ -17,19 +17,23 @@ use Rattle.reads.specs.Laws.{read-length, read-row, read-tag, read-done, versio
 use Rattle.queries.proofs.read.Statement.{statement}
 use Rattle.queries.proofs.read.Tie as tie
 
-judged : (c : tie.Else1) → (let a = c .before .before .before .before .before .args in Sound (recordsOf (a .size) (a .t2) (a .node .now) (a .row .now)))
+-- the start, from where the records are known to be sound
+abbrev start : tie.Else1 → tie.Start
+start c = c .before .before .before .before .before .before .before .before .before
+
+judged : (c : tie.Else1) → (let a = start c .args in Sound (recordsOf (a .size) (a .t2) (a .node .now) (a .row .now)))
 judged c = passed (c .before .sound .result) (c .before .sound .ensures) (c .if1 .left)
 
 -- where a version was found: the way there, the version, and that there is such a row
 abbrev early : tie.After-known-told → tie.Else2
 early c = c .before .before .before .before .before .before .before .before .before .before
 
-known : (c : tie.After-known-told) → (let a = early c .before .before .before .before .before .before .before .args in version (a .t2) (a .tag) ≡ some (c .before .found .given .0 .0))
+known : (c : tie.After-known-told) → (let a = start (early c .before .before) .args in version (a .t2) (a .tag) ≡ some (c .before .found .given .0 .0))
 known c =
-    let a = early c .before .before .before .before .before .before .before .args in
+    let a = start (early c .before .before) .args in
     found-at (version (a .t2) (a .tag)) _ (sym (c .before .found .given .1) ∙ c .before .before .before .version .ensures)
 
-low : (c : tie.After-known-told) → (let a = early c .before .before .before .before .before .before .before .args in a .r .0 < a .size .rows)
+low : (c : tie.After-known-told) → (let a = start (early c .before .before) .args in a .r .0 < a .size .rows)
 low c =
     let h = c .before .before .before .before .before .before .before .before in
     passed (h .before .has-row .result) (h .before .has-row .ensures) (h .if3 .left)
@@ -87,7 +91,7 @@ returns-4 c =
     let v = q .before .before in
     let h = v .before .before .before .before .before in
     let p = h .before .before in
-    let s = p .before .before .before .before .before .before .before in
+    let s = start (p .before .before) in
     read-tag _ _ _ _ (judged (p .before .before)) (p .if2 .left) (passed (h .before .has-row .result) (h .before .has-row .ensures) (h .if3 .left))
     (found-missing (version (s .args .t2) (s .args .tag)) (sym (q .enum-told .given .1) ∙ v .version .ensures)) (c .nothing4 .ensures)
 

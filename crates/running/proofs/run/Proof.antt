@@ -11,7 +11,7 @@ use Rattle.running.proofs.run.Statement.{statement}
 use Rattle.running.proofs.run.Tie as tie
 
 -- past the first test the records are sound
-judged : (c : tie.Else1) → (let a = c .before .before .before .before .before .before .before .before .before .args in Sound (recordsOf (a .size) (a .tree) (a .node .now) (a .row .now)))
+judged : (c : tie.Else1) → (let a = c .before .before .before .before .before .before .before .before .before .before .before .before .before .args in Sound (recordsOf (a .size) (a .t2) (a .node .now) (a .row .now)))
 judged c = passed (c .before .sound .result) (c .before .sound .ensures) (c .if1 .left)
 
 sound-requires : tie.Need-sound-requires

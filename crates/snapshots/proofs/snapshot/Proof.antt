@@ -15,24 +15,28 @@ use Rattle.basics.specs.Decide.{passed, failed}
 use Rattle.snapshots.proofs.snapshot.Statement.{statement}
 use Rattle.snapshots.proofs.snapshot.Tie as tie
 
-judged : (c : tie.Else1) → (let a = c .before .before .before .before .args in Sound (recordsOf (a .size) (a .t2) (a .node .now) (a .row .now)))
+-- the start, from where the records are known to be sound
+abbrev start : tie.Else1 → tie.Start
+start c = c .before .before .before .before .before .before .before .before
+
+judged : (c : tie.Else1) → (let a = start c .args in Sound (recordsOf (a .size) (a .t2) (a .node .now) (a .row .now)))
 judged c = passed (c .before .sound .result) (c .before .sound .ensures) (c .if1 .left)
 
 -- where the source was found, and where the new tag was not: the way there, and what is known
 abbrev early : tie.After-known-told → tie.Else2
 early c = c .before .before .before .before .before .before .before .before
 
-known : (c : tie.After-known-told) → (let a = early c .before .before .before .before .before .args in version (a .t2) (a .source) ≡ some (c .before .found .given .0 .0))
+known : (c : tie.After-known-told) → (let a = start (early c .before) .args in version (a .t2) (a .source) ≡ some (c .before .found .given .0 .0))
 known c =
-    let a = early c .before .before .before .before .before .args in
+    let a = start (early c .before) .args in
     found-at (version (a .t2) (a .source)) _ (sym (c .before .found .given .1) ∙ c .before .before .before .version .ensures)
 
 abbrev source : tie.After-enum-told3 → tie.After-known-told
 source c = c .before .before .before .before .before .before .before
 
-fresh : (c : tie.After-enum-told3) → (let a = early (source c) .before .before .before .before .before .args in version (a .t2) (a .new) ≡ none)
+fresh : (c : tie.After-enum-told3) → (let a = start (early (source c) .before) .args in version (a .t2) (a .new) ≡ none)
 fresh c =
-    let a = early (source c) .before .before .before .before .before .args in
+    let a = start (early (source c) .before) .args in
     found-missing (version (a .t2) (a .new)) (sym (c .enum-told3 .given .1) ∙ c .before .before .version2 .ensures)
 
 sound-requires : tie.Need-sound-requires
@@ -57,7 +61,7 @@ returns-3 : tie.Need-returns-3
 returns-3 c =
     let v = c .before .before in
     let e = v .before .before .before .before .before in
-    let a = e .before .before .before .before .before .args in
+    let a = start (e .before) .args in
     judged-sound (judged (e .before)) (leaves-refused unknown-tag (source-refused _ _ _ (e .if2 .left) (found-missing (version (a .t2) (a .source)) (sym (c .enum-told .given .1) ∙ v .version .ensures))))
 
 version-requires-2 : tie.Need-version-requires-2
@@ -71,7 +75,7 @@ returns-4 c =
     let v = c .before .before in
     let k = v .before .before .before .before .before in
     let e = early k in
-    let a = e .before .before .before .before .before .args in
+    let a = start (e .before) .args in
     judged-sound (judged (e .before)) (leaves-refused tag-alive (alive-refused _ _ _ (e .if2 .left) _ (known k) _ (found-at (version (a .t2) (a .new)) _ (sym (c .enum-told2 .given .1) ∙ v .version2 .ensures))))
 
 enum-told-3 : tie.Need-enum-told-3

@@ -4,6 +4,7 @@ use mathlib.Core.Path.{sym, _∙_}
 use Rattle.soundness.specs.Parts.{sound-of, tree-of, table-of}
 use Rattle.table.specs.Laws.{verdict-no}
 use Rattle.records.specs.Sound.{Measured}
+use Rattle.trees.specs.Trees.{treeOf}
 use Rattle.records.specs.Records.{recordsOf}
 use Rattle.measures.specs.Measures.{Within}
 use Rattle.basics.specs.Decide.{passed, failed, decides-iff}
@@ -13,7 +14,7 @@ use Rattle.soundness.proofs.judged.Tie as tie
 sized : (c : tie.Else1) → Within (c .before .before .before .before .before .args .size)
 sized c = passed (c .before .within .result) (c .before .within .ensures) (c .if1 .left)
 
-measured : (c : tie.Else3) → (let a = c .before .before .before .before .before .before .before .before .before .args in Measured (recordsOf (a .size) (a .t2) (a .node .now) (a .row .now)))
+measured : (c : tie.Else3) → (let a = c .before .before .before .before .before .before .before .before .before .args in Measured (recordsOf (a .size) (treeOf (a .state .now) (a .tag .now) (a .parent .now)) (a .node .now) (a .row .now)))
 measured c =
     let n = c .before .before in
     record { within = sized (n .before .before); nodes = n .if2 .left; rows = c .if3 .left }
@@ -38,7 +39,7 @@ returns-3 c = verdict-no _ _ _ (λ s. c .if3 .taken (s .measured .rows))
 
 all-sound-requires : tie.Need-all-sound-requires
 all-sound-requires c κs =
-    let e = c .before .before .before .before .before in
+    let e = c .before in
     let m = measured e in
     (m .rows ∙ sym (m .nodes), m .within .rows .1, e .before .before .before .before .before .before .before .before .before .pre)
 
@@ -48,7 +49,7 @@ same-length c = search needs
 returns-4 : tie.Need-returns-4
 returns-4 c =
     let j = c .before .before in
-    let m = measured (j .before .before .before .before .before .before) in
+    let m = measured (j .before .before) in
     record {
       decided = decides-iff (j .all-sound .result) (λ s. sound-of _ m (s .0) (s .1), λ s. (tree-of _ s, table-of _ s)) (j .all-sound .ensures .decided);
       marked = j .all-sound .ensures .marked;
