@@ -14,8 +14,8 @@ pub struct Removed {
     pub tree: Tree,
 }
 
-// The version at node v goes, and with it what only it read. The marks are those of the records' check.
-fn remove(size: Size, tree: Tree, node: &mut [u8], row: &mut [u16], marks: &[u8], v: usize) -> Tree
+// The version at node v goes, wherever it stands, and with it what only it read. The marks are those of the records' check.
+fn remove_inner(size: Size, tree: Tree, node: &mut [u8], row: &mut [u16], marks: &[u8], v: usize) -> Tree
     requires { ⌜ Deletable (recordsOf size tree (now node) (now row)) v × Marked (table (recordsOf size tree (now node) (now row))) (now marks) (length (now node)) ⌝ }
     ensures { λ t. ⌜ left t (now (node .exit)) (now (row .exit)) ≡ deletedAt (recordsOf size tree (now (node .entry)) (now (row .entry))) v ⌝ }
 {
@@ -39,6 +39,18 @@ fn remove(size: Size, tree: Tree, node: &mut [u8], row: &mut [u16], marks: &[u8]
     let next = stand.tree;
     let x = stand.node;
     pruning::settled(next, x, node)
+}
+
+// The same. One without a child right below a living one is quickly gone.
+fn remove(size: Size, tree: Tree, node: &mut [u8], row: &mut [u16], marks: &[u8], v: usize) -> Tree
+    requires { ⌜ Deletable (recordsOf size tree (now node) (now row)) v × Marked (table (recordsOf size tree (now node) (now row))) (now marks) (length (now node)) ⌝ }
+    ensures { λ t. ⌜ left t (now (node .exit)) (now (row .exit)) ≡ deletedAt (recordsOf size tree (now (node .entry)) (now (row .entry))) v ⌝ }
+{
+    if trimming::loose(&tree.state, &tree.tag, &tree.parent, v) {
+        trimming::free_own(node, row, v);
+        return pruning::emptied(tree, v);
+    }
+    remove_inner(size, tree, node, row, marks, v)
 }
 
 // The delete, with marks that are all 0.

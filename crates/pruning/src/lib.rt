@@ -24,7 +24,7 @@ pub fn ghosted(tree: Tree, v: usize) -> Tree
 }
 
 // Node x becomes empty.
-fn emptied(tree: Tree, x: usize) -> Tree
+pub fn emptied(tree: Tree, x: usize) -> Tree
     requires { ⌜ x < 128 ⌝ }
     ensures { λ t. ⌜ t ≡ emptied tree x ⌝ }
 {

@@ -4,71 +4,61 @@ use Rattle.layout.specs.Laws.{tree-same}
 use Rattle.loading.proofs.load_tree.Statement.{statement}
 use Rattle.loading.proofs.load_tree.Tie as tie
 
-slice-aggregate-fill : tie.Need-slice-aggregate-fill
-slice-aggregate-fill c = search needs
+sub-fill-nodes : tie.Need-sub-fill-nodes
+sub-fill-nodes c = search needs
 
-sub-fill : tie.Need-sub-fill
-sub-fill c = search needs
+part-fill-nodes-start : tie.Need-part-fill-nodes-start
+part-fill-nodes-start c = search needs
 
-part-fill-start : tie.Need-part-fill-start
-part-fill-start c = search needs
+part-fill-nodes-end : tie.Need-part-fill-nodes-end
+part-fill-nodes-end c = search needs
 
-part-fill-end : tie.Need-part-fill-end
-part-fill-end c = search needs
+fill-nodes-requires : tie.Need-fill-nodes-requires
+fill-nodes-requires c κs = search needs
 
-fill-requires : tie.Need-fill-requires
-fill-requires c κs = search needs
+sub-fill-nodes-2 : tie.Need-sub-fill-nodes-2
+sub-fill-nodes-2 c = search needs
 
-slice-aggregate-fill-2 : tie.Need-slice-aggregate-fill-2
-slice-aggregate-fill-2 c = search needs
+part-fill-nodes-start-2 : tie.Need-part-fill-nodes-start-2
+part-fill-nodes-start-2 c = search needs
 
-sub-fill-2 : tie.Need-sub-fill-2
-sub-fill-2 c = search needs
+part-fill-nodes-end-2 : tie.Need-part-fill-nodes-end-2
+part-fill-nodes-end-2 c = search needs
 
-part-fill-start-2 : tie.Need-part-fill-start-2
-part-fill-start-2 c = search needs
+fill-nodes-requires-2 : tie.Need-fill-nodes-requires-2
+fill-nodes-requires-2 c κs = search needs
 
-part-fill-end-2 : tie.Need-part-fill-end-2
-part-fill-end-2 c = search needs
+sub-fill-tags : tie.Need-sub-fill-tags
+sub-fill-tags c = search needs
 
-fill-requires-2 : tie.Need-fill-requires-2
-fill-requires-2 c κs = search needs
+part-fill-tags-start : tie.Need-part-fill-tags-start
+part-fill-tags-start c = search needs
 
-sub-load-few : tie.Need-sub-load-few
-sub-load-few c = search needs
+part-fill-tags-end : tie.Need-part-fill-tags-end
+part-fill-tags-end c = search needs
 
-part-load-few-start : tie.Need-part-load-few-start
-part-load-few-start c = search needs
-
-part-load-few-end : tie.Need-part-load-few-end
-part-load-few-end c = search needs
-
-slice-aggregate-load-few : tie.Need-slice-aggregate-load-few
-slice-aggregate-load-few c = search needs
-
-load-few-requires : tie.Need-load-few-requires
-load-few-requires c κs = search needs
+fill-tags-requires : tie.Need-fill-tags-requires
+fill-tags-requires c κs = search needs
 
 returns : tie.Need-returns
-returns c = tree-same (c .before .before .before .before .before .before .before .before .before .fill .ensures) (c .before .before .before .before .before .fill2 .ensures) (c .before .load-few .ensures)
+returns c =
+    let p = c .before .before .before in
+    tree-same (p .before .before .before .fill-nodes .ensures) (p .fill-nodes2 .ensures) (c .fill-tags .ensures)
 
 pub load-tree-spec : {M : Type 1} → statement M
 load-tree-spec =
     tie.close
     (tie.spec
-    slice-aggregate-fill
-    sub-fill
-    part-fill-start
-    part-fill-end
-    fill-requires
-    slice-aggregate-fill-2
-    sub-fill-2
-    part-fill-start-2
-    part-fill-end-2
-    fill-requires-2
-    sub-load-few
-    part-load-few-start
-    part-load-few-end
-    slice-aggregate-load-few
-    load-few-requires
+    sub-fill-nodes
+    part-fill-nodes-start
+    part-fill-nodes-end
+    fill-nodes-requires
+    sub-fill-nodes-2
+    part-fill-nodes-start-2
+    part-fill-nodes-end-2
+    fill-nodes-requires-2
+    sub-fill-tags
+    part-fill-tags-start
+    part-fill-tags-end
+    fill-tags-requires
     returns)
