@@ -1,6 +1,6 @@
 -- The nodes whose rows can lose their last reader when the version at node v goes. Assumes nothing.
 use mathlib.Core.Path.{_≡_, refl, sym, _∙_, ap}
-use mathlib.Core.Logic.{_≢_, _⊎_, _↔_, inl, inr, by-cases, ⊎-elim}
+use mathlib.Core.Logic.{_≢_, _⊎_, inl, inr, by-cases, ⊎-elim}
 use mathlib.Core.List.{List}
 use Prim.Native.Nat.{ℕ, zero, suc, _+_, _<_}
 use native.Mathlib.Decide.{ℕ-discrete}
@@ -8,7 +8,6 @@ use native.Mathlib.Omega.{arith}
 use lib.ListN.{length, set, length-set}
 use lib.Seq.{getD-set-same, getD-set-other}
 use Rattle.basics.specs.Decide.{at}
-use Rattle.faults.specs.Faults.{Below}
 use Rattle.trees.specs.declared.Tree.{Tree}
 use Rattle.trees.specs.Trees.{InUse, Alive, Snapshot, up, ancestor, Reaches}
 use Rattle.trees.specs.Rules.{States, Linked}
@@ -16,7 +15,7 @@ use Rattle.tree.specs.Going.{ancestor-up, ancestor-next, reaches-ind}
 use Rattle.tree.specs.Loops.{Climbing, climb-start}
 use Rattle.table.specs.Rules.{Meets, here, above}
 use Rattle.table.specs.Laws.{climb-ends}
-use Rattle.asking.specs.Asking.{MeetsAlone, Childless}
+use Rattle.asking.specs.Asking.{MeetsAlone}
 
 -- a number for each of 128 nodes: it is not 0 where the version at node v alone can read a row of the node. Left free: whether other numbers are 0, since that
 -- costs only a question
@@ -58,15 +57,6 @@ module _ (t : Tree) (v : ℕ) (xs : List ℕ) where
     size = p .size;
     all = λ marks g r l h. ⊎-elim (λ z. z) (λ k. absurd (h .alone (m, (a, d, k)))) (p .met marks g r (h .meets));
   }
-
--- Children counted
-
--- node n is no child of v
-abbrev pub NoChild : List ℕ → List ℕ → ℕ → ℕ → Type 0
-NoChild state parent v n = n ≢ 0 → at state n ≢ 0 → at parent n ≡ v → ⊥
-
-pub childless-below : (t : Tree) (v : ℕ) → Below (NoChild (t .state) (t .parent) v) 128 ↔ Childless t v
-childless-below t v = (λ h c (z, u, e). h c (u .0) z (u .1) e, λ h n l z a e. h n (z, (l, a), e))
 
 -- No node but node 0 is above itself
 

@@ -111,7 +111,7 @@ pub fn free_alone<'a>(
         (now (node .exit)) (now (row .exit)) ⌝ }
 {
     let affected = affecting::affected(state, tag, parent, v);
-    let leaf = affecting::childless(state, tag, parent, v);
+    let leaf = nodes::childless(state, tag, parent, v);
     let kin = kin_of(state, tag, parent, used, v, leaf);
     let sure = fencing::levelled(state, tag, parent, used, &affected, v);
     free_affected(

@@ -8,8 +8,7 @@ use native.Mathlib.Omega.{arith}
 use lib.ListN.{length, take, drop, set, length-append, length-drop, length-set, take-append-drop, replicate, length-replicate, getD-replicate, List·getD-eq-default}
 use lib.Seq.{length-take-le, take-at, drop-at, drop-drop, set-split, take-suc, take-all, ext-getD, getD-set-same, getD-set-other, getD-take, getD-drop}
 use Rattle.basics.specs.Decide.{at}
-use Rattle.faults.specs.Faults.{Below}
-use Rattle.scanning.specs.Zero.{Zero, ZeroFrom, zero-part}
+use Rattle.scanning.specs.Zero.{ZeroFrom}
 use Rattle.laying.specs.Laid.{laid, Lays, twos, highByte, lowByte, pairs, numbers, pairAt}
 
 module _ (b : List ℕ) (p : ℕ) (t : List ℕ) (m : p + length t ≤ length b) where
@@ -176,16 +175,19 @@ Same xs ys i = (k : ℕ) → i ≤ k → at ys k ≡ at xs k
 pub zeros-at : (n k : ℕ) → at (replicate n 0) k ≡ 0
 zeros-at n k = by-cases (decLt k n) (λ l. getD-replicate {A = ℕ} n k 0 0 l) (λ l. List·getD-eq-default (replicate n 0) 0 {n = k} (omega (arith, length-replicate {A = ℕ} n 0)))
 
+-- of 128 numbers those from stop on, a multiple of 16, are 0
+pub record Stops (bytes : List ℕ) (stop : ℕ) : Type 0 where
+  pub most : stop ≤ 128
+  pub step : (j : ℕ) × (stop ≡ j * 16)
+  pub idle : ZeroFrom bytes (2 * stop) 256
+
 -- past numbers that are 0 and are there already
-pub load-past : (bytes to : List ℕ) (i j : ℕ) → i ≤ j → j ≤ length to → (let part = take (2 * j - 2 * i) (drop (2 * i) bytes) in Below (Zero part) (length part)) → ((k : ℕ) → i ≤ k → at to k ≡ 0) → Loading bytes to i → Loading bytes to j
+pub load-past : (bytes to : List ℕ) (i j : ℕ) → i ≤ j → j ≤ length to → ZeroFrom bytes (2 * i) (2 * j) → ((k : ℕ) → i ≤ k → at to k ≡ 0) → Loading bytes to i → Loading bytes to j
 load-past bytes to i j l m f z c = record {
   most = m;
   size = c .size;
-  same = λ k b. by-cases (decLt k i) (λ h. c .same k h) (λ h. z k (omega arith) ∙ sym (let e = byte (2 * k) (omega arith) (omega arith) in let g = byte (2 * k + 1) (omega arith) (omega arith) in rw (e, g)));
+  same = λ k b. by-cases (decLt k i) (λ h. c .same k h) (λ h. z k (omega arith) ∙ sym (let e = f (2 * k) (omega arith) (omega arith) in let g = f (2 * k + 1) (omega arith) (omega arith) in rw (e, g)));
 }
-  where
-    byte : ZeroFrom bytes (2 * i) (2 * j)
-    byte = zero-part bytes (2 * i) (2 * j) (omega (arith, c .size)) .0 f
 
 pub load-next : (bytes to : List ℕ) (i x : ℕ) → i < length to → x ≡ pairAt bytes (2 * i) → Loading bytes to i → Loading bytes (set to i x) (i + 1)
 load-next bytes to i x l e c = record {

@@ -5,7 +5,7 @@ ghost use mathlib.Core.List.{[], _∷_};
 ghost use Prim.Native.Nat.{_+_, _*_, _/_, _%_, _≤_, _<_};
 ghost use lib.ListN.{length, replicate};
 ghost use Rattle.laying.specs.Laid.{Lays, pairs, numbers, pairAt};
-ghost use Rattle.laying.specs.Laws.{Loading, Same};
+ghost use Rattle.laying.specs.Laws.{Loading, Same, Stops};
 
 pub fn put(out: &mut [u8], at: usize, byte: u8) -> usize
     requires { ⌜ at < length (now out) ⌝ }
@@ -100,13 +100,27 @@ pub fn load_numbers(bytes: &[u8], to: &mut [u16])
     load_stretch(bytes, to, 0, end);
 }
 
+// Up to where numbers are not 0: few trees have one past the first 16, and that is soon told.
+fn few_to(bytes: &[u8]) -> usize
+    requires { ⌜ length (now bytes) ≡ 256 ⌝ }
+    ensures { λ stop. ⌜ Stops (now (bytes .entry)) stop ⌝ }
+{
+    let from: usize = 32;
+    let to: usize = 256;
+    if scanning::zero(&bytes[from..to]) {
+        return 16;
+    }
+    128
+}
+
 // Every number of the bytes, of which most are 0, as those are that are there: stretches of 16 numbers that are 0 are passed as a whole.
 pub fn load_few(bytes: &[u8], to: &mut [u16])
     requires { ⌜ (length (now bytes) ≡ 256) × (length (now to) ≡ 128) × Same (replicate 128 0) (now to) 0 ⌝ }
     ensures { λ r. ⌜ now (to .exit) ≡ numbers (now (bytes .entry)) ⌝ }
 {
+    let stop = few_to(bytes);
     let mut n: usize = 0;
-    while n < 128 {
+    while n < stop {
         let end = n + 16;
         let first = 2 * n;
         let last = 2 * end;

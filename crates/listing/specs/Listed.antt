@@ -2,7 +2,7 @@
 use mathlib.Core.Path.{_≡_, refl, sym, _∙_, ap}
 use mathlib.Core.Logic.{_≢_, by-cases}
 use mathlib.Core.List.{List}
-use Prim.Native.Nat.{ℕ, _+_, _≤_, _<_}
+use Prim.Native.Nat.{ℕ, _+_, _*_, _≤_, _<_}
 use native.Mathlib.Decide.{ℕ-discrete, decLt}
 use native.Mathlib.Omega.{arith}
 use lib.ListN.{length, set, take, length-set}
@@ -25,6 +25,12 @@ pub record Listing (state xs : List ℕ) (k n : ℕ) : Type 0 where
   pub each : (j : ℕ) → j < k → (at xs j ≢ 0) × (at xs j < n) × (at state (at xs j) ≢ 0)
   pub all : (m : ℕ) → m ≢ 0 → m < n → at state m ≢ 0 → (j : ℕ) × (j < k) × (at xs j ≡ m)
   pub apart : (i j : ℕ) → i < k → j < k → at xs i ≡ at xs j → i ≡ j
+
+-- from node end on, a multiple of 16, none is in use
+pub record Ends (state : List ℕ) (end : ℕ) : Type 0 where
+  pub most : end ≤ 128
+  pub step : (j : ℕ) × (end ≡ j * 16)
+  pub idle : ZeroFrom state end 128
 
 module _ (state xs : List ℕ) where
   pub listing-first : length xs ≡ 128 → Listing state xs 0 0

@@ -4,7 +4,7 @@ ghost use Prim.Native.Nat.{_+_, _≤_};
 ghost use lib.ListN.{length, take};
 ghost use Rattle.basics.specs.Decide.{Decides};
 ghost use Rattle.scanning.specs.Zero.{ZeroFrom};
-ghost use Rattle.listing.specs.Listed.{Listed, Listing};
+ghost use Rattle.listing.specs.Listed.{Listed, Listing, Ends};
 
 // Is none of 16 nodes from node n on in use?
 pub fn idle_from(state: &[u8], n: usize) -> bool
@@ -13,6 +13,19 @@ pub fn idle_from(state: &[u8], n: usize) -> bool
 {
     let to = n + 16;
     scanning::zero(&state[n..to])
+}
+
+// Up to where nodes are in use: few trees have one past the first 16, and that is soon told.
+fn busy_to(state: &[u8]) -> usize
+    requires { ⌜ length (now state) ≡ 128 ⌝ }
+    ensures { λ end. ⌜ Ends (now (state .entry)) end ⌝ }
+{
+    let from: usize = 16;
+    let to: usize = 128;
+    if scanning::zero(&state[from..to]) {
+        return from;
+    }
+    to
 }
 
 // The nodes in use from one node to another join the list, which has k already.
@@ -39,9 +52,10 @@ pub fn list(state: &[u8], out: &mut [u8]) -> usize
     requires { ⌜ (length (now state) ≡ 128) × (length (now out) ≡ 128) ⌝ }
     ensures { λ k. ⌜ (k ≤ 128) × Listed (now (state .entry)) (take k (now (out .exit))) × (length (now (out .exit)) ≡ 128) ⌝ }
 {
+    let end = busy_to(state);
     let mut k: usize = 0;
     let mut n: usize = 0;
-    while n < 128 {
+    while n < end {
         let to = n + 16;
         if !idle_from(state, n) {
             k = enlist(state, out, k, n, to);

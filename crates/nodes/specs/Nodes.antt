@@ -1,7 +1,8 @@
 -- The first empty node and the first child of a node, and the laws of their searches. Assumes nothing.
 use mathlib.Core.Path.{_≡_, refl, sym, _∙_}
-use mathlib.Core.Logic.{_≢_}
+use mathlib.Core.Logic.{_≢_, _↔_}
 use mathlib.Core.Bool.{Bool, true, false, not, false≢true}
+use mathlib.Core.List.{List}
 use mathlib.Core.Option.{Option, none, some}
 use Prim.Native.Nat.{ℕ, _+_, _≤_, _<_}
 use native.Mathlib.Omega.{arith}
@@ -9,6 +10,7 @@ use borrow.Author.Tests.{not-true, not-false, eqb-true}
 use Rattle.basics.specs.Decide.{at, not-yes, not-no}
 use Rattle.basics.specs.Count.{count, first}
 use Rattle.basics.specs.CountLaws.{count-none, count-no, count-yes, first-some, first-none, first-yes, first-no, first-more, first-start}
+use Rattle.faults.specs.Faults.{Below}
 use Rattle.trees.specs.declared.Tree.{Tree}
 use Rattle.trees.specs.Trees.{Child, isUsed, nodesUsed, isChild}
 use Rattle.tree.specs.Nodes.{used-yes, used-no, child-yes, child-of}
@@ -80,6 +82,13 @@ module _ (t : Tree) where
   unfolding firstChild
   child-some p c e = let s = first-some (isChild t p) 128 c e in child-of t p c (s .low) (s .passes)
 
+  pub no-child : (p : ℕ) → ((c : ℕ) → Child t p c → ⊥) → firstChild t p ≡ none
+  no-child p h = go (firstChild t p) refl
+    where
+      go : (x : Option ℕ) → firstChild t p ≡ x → firstChild t p ≡ none
+      go none e = e
+      go (some c) e = absurd (h c (child-some p c e))
+
   pub child-none : (p : ℕ) → firstChild t p ≡ none → (c : ℕ) → Child t p c → ⊥
   unfolding firstChild
   child-none p e c h = false≢true (sym (first-none (isChild t p) 128 e c (h .1 .0)) ∙ child-yes t p c h)
@@ -99,3 +108,12 @@ module _ (t : Tree) (p : ℕ) where
       go : (b : Bool) → isChild t p n ≡ b → isChild t p n ≡ false
       go true x = absurd (h (child-of t p n l x))
       go false x = x
+
+-- Children counted as they break a rule
+
+-- node n is no child of v
+abbrev pub NoChild : List ℕ → List ℕ → ℕ → ℕ → Type 0
+NoChild state parent v n = n ≢ 0 → at state n ≢ 0 → at parent n ≡ v → ⊥
+
+pub childless-below : (t : Tree) (v : ℕ) → Below (NoChild (t .state) (t .parent) v) 128 ↔ ((c : ℕ) → Child t v c → ⊥)
+childless-below t v = (λ h c (z, u, e). h c (u .0) z (u .1) e, λ h n l z a e. h n (z, (l, a), e))

@@ -1,8 +1,9 @@
 // Nodes for a change of the tree: an empty one, a child, and the tree with one node changed.
 ghost use mathlib.Core.Path.{_≡_};
 ghost use mathlib.Core.Option.{some};
-ghost use Prim.Native.Nat.{_<_};
-ghost use Rattle.trees.specs.Trees.{treeOf, nodesUsed, children};
+ghost use Prim.Native.Nat.{ℕ, _<_};
+ghost use Rattle.basics.specs.Decide.{Decides};
+ghost use Rattle.trees.specs.Trees.{treeOf, Child, nodesUsed, children};
 ghost use Rattle.tree.specs.Rules.{foundOf};
 ghost use Rattle.edits.specs.Edits.{grown, hung, split};
 ghost use Rattle.nodes.specs.Nodes.{emptyNode, firstChild};
@@ -24,8 +25,34 @@ pub fn empty_node<'a>(state: &'a [u8; 128], tag: &'a [u16; 128], parent: &'a [u8
     n
 }
 
-// The first child of a node.
-pub fn child<'a>(
+// Has a node no child? Children are counted in a loop that is never left early: so the compiler takes many nodes at once.
+pub fn childless<'a>(
+    state: &'a [u8; 128],
+    tag: &'a [u16; 128],
+    parent: &'a [u8; 128],
+    v: usize,
+) -> bool
+    requires { ⌜ v < 128 ⌝ }
+    ensures { λ b. ⌜ Decides b ((c : ℕ) → Child (treeOf (now (state .entry)) (now (tag .entry)) (now (parent .entry))) v c → ⊥) ⌝ }
+{
+    let wanted = v as u8;
+    let mut children: u8 = 0;
+    let mut n: usize = 1;
+    while n < 128 {
+        let s = state[n];
+        let p = parent[n];
+        if s != 0 {
+            if p == wanted {
+                children += 1;
+            }
+        }
+        n += 1;
+    }
+    children == 0
+}
+
+// The first child of a node, node by node.
+fn first_child<'a>(
     state: &'a [u8; 128],
     tag: &'a [u16; 128],
     parent: &'a [u8; 128],
@@ -43,6 +70,23 @@ pub fn child<'a>(
         n += 1;
     }
     Found::Missing
+}
+
+// The first child of a node. That there is none is soon told.
+pub fn child<'a>(
+    state: &'a [u8; 128],
+    tag: &'a [u16; 128],
+    parent: &'a [u8; 128],
+    p: usize,
+) -> Found
+    ensures { λ r. ⌜ r ≡ foundOf (firstChild (treeOf (now (state .entry)) (now (tag .entry)) (now (parent .entry))) p) ⌝ }
+{
+    if p < 128 {
+        if childless(state, tag, parent, p) {
+            return Found::Missing;
+        }
+    }
+    first_child(state, tag, parent, p)
 }
 
 // A new living node m, with a tag, under node p.

@@ -1,5 +1,4 @@
 // Is a number among others, and are bytes all 0?
-ghost use Prim.Native.Nat.{_≤_};
 ghost use lib.ListN.{length};
 ghost use Rattle.basics.specs.Decide.{Decides};
 ghost use Rattle.faults.specs.Faults.{Below};
@@ -21,18 +20,17 @@ pub fn among(xs: &[u16], x: u16) -> bool
     seen
 }
 
-// Are a few bytes all 0? All are looked at, and none is left early: so the compiler takes many at once.
+// Are bytes all 0? The greatest of them is found, and none is left early: so the compiler takes many at once.
 pub fn zero(bytes: &[u8]) -> bool
-    requires { ⌜ length (now bytes) ≤ 255 ⌝ }
     ensures { λ b. ⌜ Decides b (Below (Zero (now (bytes .entry))) (length (now (bytes .entry)))) ⌝ }
 {
-    let mut others: u8 = 0;
+    let mut most: u8 = 0;
     let mut i: usize = 0;
     while i < bytes.len() {
-        if bytes[i] != 0 {
-            others += 1;
+        if bytes[i] > most {
+            most = bytes[i];
         }
         i += 1;
     }
-    others == 0
+    most == 0
 }

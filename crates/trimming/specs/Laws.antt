@@ -3,7 +3,7 @@ use mathlib.Core.Path.{_≡_, refl, sym, _∙_, ap}
 use mathlib.Core.Logic.{_≢_, by-cases}
 use mathlib.Core.Bool.{Bool, true, false, cond}
 use mathlib.Core.List.{List, [], _∷_}
-use mathlib.Core.Option.{Option, none, some}
+use mathlib.Core.Option.{none}
 use Prim.Native.Nat.{ℕ, zero, suc, _+_, _<_}
 use native.Mathlib.Decide.{ℕ-discrete}
 use native.Mathlib.Omega.{arith}
@@ -17,7 +17,7 @@ use Rattle.trees.specs.Trees.{Table, InUse, Alive, Snapshot, up, Child, ancesto
 use Rattle.trees.specs.Rules.{States, Linked}
 use Rattle.table.specs.Rules.{Judging, Marked, Meets, here, above}
 use Rattle.records.specs.Records.{Records, table}
-use Rattle.nodes.specs.Nodes.{firstChild, child-some}
+use Rattle.nodes.specs.Nodes.{firstChild, no-child}
 use Rattle.asking.specs.Asking.{MeetsAlone}
 use Rattle.asking.specs.Laws.{childless-alone}
 use Rattle.affecting.specs.Affected.{above-other}
@@ -76,15 +76,9 @@ emptied-again t v = rw (set-again (t .state) v 2 0, set-again (t .tag) v 0 0)
 module _ (z : Records) (v : ℕ) (d : Deletable z v) (o : Loose (z .tree) v) where
   -- it has no child as a ghost either
   ghost-childless : firstChild (ghosted (z .tree) v) v ≡ none
-  ghost-childless = go (firstChild (ghosted (z .tree) v) v) refl
-    where
-      go : (x : Option ℕ) → firstChild (ghosted (z .tree) v) v ≡ x → firstChild (ghosted (z .tree) v) v ≡ none
-      go none e = e
-      go (some c) e =
-          let (a, u, y) = child-some (ghosted (z .tree) v) v c e in
-          absurd (by-cases (ℕ-discrete c v)
-          (λ x. o .0 c (a, rw x (used-node d), y))
-          (λ x. o .0 c (a, (u .0, λ f. u .1 (getD-set-other (z .tree .state) v c 2 0 x ∙ f)), y)))
+  ghost-childless = no-child (ghosted (z .tree) v) v (λ c (a, u, y). by-cases (ℕ-discrete c v)
+      (λ x. o .0 c (a, rw x (used-node d), y))
+      (λ x. o .0 c (a, (u .0, λ f. u .1 (getD-set-other (z .tree .state) v c 2 0 x ∙ f)), y)))
 
   -- a delete of it
   pub trimmed : {marks : List ℕ} → Marked (table z) marks (length (z .node)) → left (emptied (z .tree) v) (ownFreed v (z .node) (z .node)) (ownFreed v (z .node) (z .row)) ≡ deletedAt z v

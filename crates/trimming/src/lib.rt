@@ -20,7 +20,7 @@ pub fn loose<'a>(
     if state[p] != 1 {
         return false;
     }
-    affecting::childless(state, tag, parent, v)
+    nodes::childless(state, tag, parent, v)
 }
 
 // Every entry of node v becomes free.

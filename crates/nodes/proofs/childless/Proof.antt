@@ -1,4 +1,4 @@
--- `affecting::childless` meets its contract: children are counted. Assumes nothing.
+-- `nodes::childless` meets its contract: children are counted. Assumes nothing.
 use borrow.Author.Needs.{needs}
 use Prim.Native.Nat.{_≤_, _-_}
 use mathlib.Core.Path.{_≡_, refl}
@@ -8,9 +8,9 @@ use lib.Dec.{eqb}
 use Rattle.basics.specs.Decide.{decides-iff}
 use Rattle.faults.specs.Faults.{Faults, faults-first, faults-kept, faults-broken, faults-all}
 use Rattle.trees.specs.Trees.{treeOf}
-use Rattle.affecting.specs.Affected.{NoChild, childless-below}
-use Rattle.affecting.proofs.childless.Statement.{statement}
-use Rattle.affecting.proofs.childless.Tie as tie
+use Rattle.nodes.specs.Nodes.{NoChild, childless-below}
+use Rattle.nodes.proofs.childless.Statement.{statement}
+use Rattle.nodes.proofs.childless.Tie as tie
 
 abbrev Inv-loop : tie.InvT-loop
 Inv-loop state tag parent v wanted children₀ n₀ children n = (1 ≤ n) × (n ≤ 128) × Faults (NoChild state parent v) n children
