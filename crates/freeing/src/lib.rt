@@ -3,14 +3,12 @@ ghost use mathlib.Core.Path.{_≡_};
 ghost use mathlib.Core.Bool.{true};
 ghost use Rattle.trees.specs.Trees.{treeOf, tableOf, Snapshot};
 ghost use Rattle.trees.specs.Rules.{States};
-ghost use Rattle.tree.specs.Rules.{Parents};
 ghost use Rattle.listing.specs.Listed.{Listed};
 ghost use Rattle.table.specs.Rules.{Judging, Nodes};
 ghost use Rattle.asking.specs.Asking.{Childless};
 ghost use Rattle.affecting.specs.Affected.{Affected};
 ghost use Rattle.fencing.specs.Fenced.{Levelled};
 ghost use Rattle.removal.specs.Removal.{Freed};
-use guessing::Children;
 use measures::Row;
 
 // The entries that only the version at node v reads become free. Only those of affected nodes are asked. The marks are those of the table as it was.
@@ -67,31 +65,6 @@ fn free_affected<'a>(
     }
 }
 
-// The nodes' children, from which other readers are guessed; none at all where none can be: of a node without a child under a living one. Beyond being nodes they are free.
-fn kin_of<'a>(
-    state: &'a [u8; 128],
-    tag: &'a [u16; 128],
-    parent: &'a [u8; 128],
-    used: &'a [u8],
-    v: usize,
-    leaf: bool,
-) -> Children
-    requires { ⌜ Parents (treeOf (now state) (now tag) (now parent)) × Snapshot (treeOf (now state) (now tag) (now parent)) v × Listed (now state) (now used) ⌝ }
-    ensures { λ k. ⌜ Nodes (k .first) × Nodes (k .after) ⌝ }
-{
-    let p = widen::byte(parent[v]);
-    if leaf {
-        if state[p] == 1 {
-            return Children {
-                first: [0u8; 128],
-                after: [0u8; 128],
-            };
-        }
-    }
-    let near = nearing::near(state, tag, parent, used);
-    guessing::kin(state, tag, parent, used, &near)
-}
-
 // The entries that only the version at node v reads become free. `others` are the states without v, of which only a guess is made.
 pub fn free_alone<'a>(
     state: &'a [u8; 128],
@@ -112,7 +85,8 @@ pub fn free_alone<'a>(
 {
     let affected = affecting::affected(state, tag, parent, v);
     let leaf = nodes::childless(state, tag, parent, v);
-    let kin = kin_of(state, tag, parent, used, v, leaf);
+    let near = nearing::near(state, tag, parent, used);
+    let kin = guessing::kin(state, tag, parent, used, &near);
     let sure = fencing::levelled(state, tag, parent, used, &affected, v);
     free_affected(
         state,

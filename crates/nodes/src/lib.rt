@@ -1,5 +1,6 @@
 // Nodes for a change of the tree: an empty one, a child, and the tree with one node changed.
 ghost use mathlib.Core.Path.{_≡_};
+ghost use mathlib.Core.Logic.{_≢_};
 ghost use mathlib.Core.Option.{some};
 ghost use Prim.Native.Nat.{ℕ, _<_};
 ghost use Rattle.basics.specs.Decide.{Decides};
@@ -25,6 +26,19 @@ pub fn empty_node<'a>(state: &'a [u8; 128], tag: &'a [u16; 128], parent: &'a [u8
     n
 }
 
+// Is a node in use, and its parent a certain one? The numbers are compared in a function of their own, so that the loop that asks has no branch left.
+fn hangs(s: u8, p: u8, above: u8) -> bool
+    ensures { λ r. ⌜ Decides r ((s ≢ 0) × (p ≡ above)) ⌝ }
+{
+    if s == 0 {
+        return false;
+    }
+    if p != above {
+        return false;
+    }
+    true
+}
+
 // Has a node no child? Children are counted in a loop that is never left early: so the compiler takes many nodes at once.
 pub fn childless<'a>(
     state: &'a [u8; 128],
@@ -39,12 +53,8 @@ pub fn childless<'a>(
     let mut children: u8 = 0;
     let mut n: usize = 1;
     while n < 128 {
-        let s = state[n];
-        let p = parent[n];
-        if s != 0 {
-            if p == wanted {
-                children += 1;
-            }
+        if hangs(state[n], parent[n], wanted) {
+            children += 1;
         }
         n += 1;
     }

@@ -10,24 +10,30 @@ affected-requires c κs = search needs
 childless-requires : tie.Need-childless-requires
 childless-requires c κs = search needs
 
-kin-of-requires : tie.Need-kin-of-requires
-kin-of-requires c κs = let p = c .before .before .before .before .before .before .pre in (λ n l. p .3 .fitting .linked .parent n, p .1, p .2)
+-- the start, from where the children are asked for
+abbrev start : tie.After-childless → tie.Start
+start c = c .before .before .before .before .before .before
+
+near-requires : tie.Need-near-requires
+near-requires c κs = let p = start c .pre in (λ n l. p .3 .fitting .linked .parent n, p .2)
+
+kin-requires : tie.Need-kin-requires
+kin-requires c κs = let p = start (c .before .before) .pre in (λ n l. p .3 .fitting .linked .parent n, p .2)
 
 levelled-requires : tie.Need-levelled-requires
-levelled-requires c κs = let p = c .before .before .before .before .before .before .before .before .pre in (λ n l. p .3 .fitting .linked .parent n, p .2)
+levelled-requires c κs = let p = start (c .before .before .before .before) .pre in (λ n l. p .3 .fitting .linked .parent n, p .2)
 
 free-affected-requires : tie.Need-free-affected-requires
 free-affected-requires c κs =
     let s = c .before .before .before .before .before .before in
     let k = s .before .before in
-    let h = k .before in
-    let a = h .before in
-    let p = a .before .before .before .before .before .pre in (
+    let h = k .before .before .before in
+    let p = start h .pre in (
       p .1,
       p .3,
-      k .kin-of .ensures .0,
-      k .kin-of .ensures .1,
-      a .affected .ensures,
+      k .kin .ensures .0,
+      k .kin .ensures .1,
+      h .before .affected .ensures,
       λ x. holds (h .childless .result) (h .childless .ensures) x,
       p .2,
       λ x. holds (s .levelled .result) (s .levelled .ensures) x,
@@ -48,7 +54,8 @@ free-alone-spec =
     (tie.spec
     affected-requires
     childless-requires
-    kin-of-requires
+    near-requires
+    kin-requires
     levelled-requires
     free-affected-requires
     same-length

@@ -5,7 +5,7 @@ use mathlib.Core.Path.{_≡_, refl}
 use mathlib.Core.Logic.{⊎-elim}
 use native.Mathlib.Omega.{arith}
 use lib.Dec.{eqb}
-use Rattle.basics.specs.Decide.{decides-iff}
+use Rattle.basics.specs.Decide.{decides-iff, holds, fails}
 use Rattle.faults.specs.Faults.{Faults, faults-first, faults-kept, faults-broken, faults-all}
 use Rattle.trees.specs.Trees.{treeOf}
 use Rattle.nodes.specs.Nodes.{NoChild, childless-below}
@@ -24,11 +24,14 @@ cast-wanted c = search needs
 loop-holds : tie.Need-loop-holds Inv-loop μ-loop
 loop-holds c = (omega arith, omega arith, faults-kept (λ z. absurd (z refl)) faults-first)
 
-element-copy-out-s : tie.Need-element-copy-out-s Inv-loop μ-loop
-element-copy-out-s c = search needs
+element-copy-out-hangs : tie.Need-element-copy-out-hangs Inv-loop μ-loop
+element-copy-out-hangs c = search needs
 
-element-copy-out-p : tie.Need-element-copy-out-p Inv-loop μ-loop
-element-copy-out-p c = search needs
+element-copy-out-hangs-2 : tie.Need-element-copy-out-hangs-2 Inv-loop μ-loop
+element-copy-out-hangs-2 c = search needs
+
+hangs-requires : tie.Need-hangs-requires Inv-loop μ-loop
+hangs-requires c κs = search needs
 
 add-children : tie.Need-add-children Inv-loop μ-loop
 add-children c = search needs
@@ -40,13 +43,15 @@ loop-less : tie.Need-loop-less Inv-loop μ-loop
 loop-less c = search needs
 
 loop-again : tie.Need-loop-again Inv-loop μ-loop
-loop-again c = let (l, m, v) = c .before .before .before .before .loop .inv in (
-  omega arith,
-  omega arith,
-  ⊎-elim (λ w. rw (w .2) (faults-broken (λ h. h (omega (arith, l)) (w .0 .taken) (w .1 .taken)) v))
-      (⊎-elim (λ w. rw (w .2) (faults-kept (λ z a e. w .1 .left e) v)) (λ w. rw (w .1) (faults-kept (λ z a. absurd (a (w .0 .left))) v)))
-      (c .if1 .came),
-)
+loop-again c =
+    let a = c .before in
+    let (l, m, v) = a .before .before .before .before .loop .inv in (
+      omega arith,
+      omega arith,
+      ⊎-elim (λ w. rw (w .1) (faults-broken (λ h. let y = holds (a .hangs .result) (a .hangs .ensures) (w .0 .taken) in h (omega (arith, l)) (y .0) (y .1)) v))
+          (λ w. rw (w .1) (faults-kept (λ z x e. fails (a .hangs .result) (a .hangs .ensures) (w .0 .left) (x, e)) v))
+          (c .if1 .came),
+    )
 
 returns : tie.Need-returns Inv-loop μ-loop
 returns c =
@@ -63,8 +68,9 @@ childless-spec =
     μ-loop
     cast-wanted
     loop-holds
-    element-copy-out-s
-    element-copy-out-p
+    element-copy-out-hangs
+    element-copy-out-hangs-2
+    hangs-requires
     add-children
     add-n
     loop-less
