@@ -15,7 +15,7 @@ pub struct Removed {
 }
 
 // The version at node v goes, wherever it stands, and with it what only it read. The marks are those of the records' check.
-fn remove_inner(size: Size, tree: Tree, node: &mut [u8], row: &mut [u16], marks: &[u8], v: usize) -> Tree
+fn remove(size: Size, tree: Tree, node: &mut [u8], row: &mut [u16], marks: &[u8], v: usize) -> Tree
     requires { ⌜ Deletable (recordsOf size tree (now node) (now row)) v × Marked (table (recordsOf size tree (now node) (now row))) (now marks) (length (now node)) ⌝ }
     ensures { λ t. ⌜ left t (now (node .exit)) (now (row .exit)) ≡ deletedAt (recordsOf size tree (now (node .entry)) (now (row .entry))) v ⌝ }
 {
@@ -41,19 +41,7 @@ fn remove_inner(size: Size, tree: Tree, node: &mut [u8], row: &mut [u16], marks:
     pruning::settled(next, x, node)
 }
 
-// The same. One without a child right below a living one is quickly gone.
-fn remove(size: Size, tree: Tree, node: &mut [u8], row: &mut [u16], marks: &[u8], v: usize) -> Tree
-    requires { ⌜ Deletable (recordsOf size tree (now node) (now row)) v × Marked (table (recordsOf size tree (now node) (now row))) (now marks) (length (now node)) ⌝ }
-    ensures { λ t. ⌜ left t (now (node .exit)) (now (row .exit)) ≡ deletedAt (recordsOf size tree (now (node .entry)) (now (row .entry))) v ⌝ }
-{
-    if trimming::loose(&tree.state, &tree.tag, &tree.parent, v) {
-        trimming::free_own(node, row, v);
-        return pruning::emptied(tree, v);
-    }
-    remove_inner(size, tree, node, row, marks, v)
-}
-
-// The delete, with marks that are all 0.
+// The delete, with marks that are all 0. A version without a child right below a living one is quickly gone.
 fn delete_marked(
     size: Size,
     tree: Tree,
@@ -75,6 +63,13 @@ fn delete_marked(
     let Found::At(v) = found else {
         return Removed { answer: 21, tree };
     };
+    if trimming::loose(&tree.state, &tree.tag, &tree.parent, v) {
+        trimming::free_own(node, row, v);
+        return Removed {
+            answer: 0,
+            tree: pruning::emptied(tree, v),
+        };
+    }
     Removed {
         answer: 0,
         tree: remove(size, tree, node, row, marks, v),

@@ -100,40 +100,37 @@ pub fn child<'a>(
 }
 
 // A new living node m, with a tag, under node p.
-pub fn grown(tree: Tree, m: usize, tag: u16, p: usize) -> Tree
+pub fn grown(mut tree: Tree, m: usize, tag: u16, p: usize) -> Tree
     requires { ⌜ (m < 128) × (p < 128) ⌝ }
     ensures { λ t. ⌜ t ≡ grown tree m tag p ⌝ }
 {
-    let mut t = tree;
-    t.state[m] = 1;
-    t.tag[m] = tag;
-    t.parent[m] = p as u8;
-    t
+    tree.state[m] = 1;
+    tree.tag[m] = tag;
+    tree.parent[m] = p as u8;
+    tree
 }
 
 // Node c is hung under node p.
-pub fn hung(tree: Tree, c: usize, p: usize) -> Tree
+pub fn hung(mut tree: Tree, c: usize, p: usize) -> Tree
     requires { ⌜ (c < 128) × (p < 128) ⌝ }
     ensures { λ t. ⌜ t ≡ hung tree c p ⌝ }
 {
-    let mut t = tree;
-    t.parent[c] = p as u8;
-    t
+    tree.parent[c] = p as u8;
+    tree
 }
 
 // Node v becomes a ghost, and its tag passes to a new child m.
-pub fn split(tree: Tree, v: usize, m: usize) -> Tree
+pub fn split(mut tree: Tree, v: usize, m: usize) -> Tree
     requires { ⌜ (v < 128) × (m < 128) ⌝ }
     ensures { λ t. ⌜ t ≡ split tree v m ⌝ }
 {
-    let mut t = tree;
-    let tag = t.tag[v];
-    t.state[v] = 2;
-    t.tag[v] = 0;
-    t.state[m] = 1;
-    t.tag[m] = tag;
-    t.parent[m] = v as u8;
-    t
+    let tag = tree.tag[v];
+    tree.state[v] = 2;
+    tree.tag[v] = 0;
+    tree.state[m] = 1;
+    tree.tag[m] = tag;
+    tree.parent[m] = v as u8;
+    tree
 }
 
 // How many children a node has.

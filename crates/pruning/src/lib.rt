@@ -13,37 +13,34 @@ pub struct Stand {
 }
 
 // Node v becomes a ghost.
-pub fn ghosted(tree: Tree, v: usize) -> Tree
+pub fn ghosted(mut tree: Tree, v: usize) -> Tree
     requires { ⌜ v < 128 ⌝ }
     ensures { λ t. ⌜ t ≡ ghosted tree v ⌝ }
 {
-    let mut t = tree;
-    t.state[v] = 2;
-    t.tag[v] = 0;
-    t
+    tree.state[v] = 2;
+    tree.tag[v] = 0;
+    tree
 }
 
 // Node x becomes empty.
-pub fn emptied(tree: Tree, x: usize) -> Tree
+pub fn emptied(mut tree: Tree, x: usize) -> Tree
     requires { ⌜ x < 128 ⌝ }
     ensures { λ t. ⌜ t ≡ emptied tree x ⌝ }
 {
-    let mut t = tree;
-    t.state[x] = 0;
-    t.tag[x] = 0;
-    t.parent[x] = 0;
-    t
+    tree.state[x] = 0;
+    tree.tag[x] = 0;
+    tree.parent[x] = 0;
+    tree
 }
 
 // Node x is taken out: its child w goes under its parent.
-fn spliced(tree: Tree, x: usize, w: usize) -> Tree
+fn spliced(mut tree: Tree, x: usize, w: usize) -> Tree
     requires { ⌜ (x < 128) × (w < 128) ⌝ }
     ensures { λ t. ⌜ t ≡ spliced tree x w ⌝ }
 {
-    let mut t = tree;
-    let p = t.parent[x];
-    t.parent[w] = p;
-    emptied(t, x)
+    let p = tree.parent[x];
+    tree.parent[w] = p;
+    emptied(tree, x)
 }
 
 // Every entry of node x becomes node w's.

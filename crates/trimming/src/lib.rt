@@ -7,12 +7,7 @@ ghost use Rattle.tree.specs.Rules.{Parents};
 ghost use Rattle.trimming.specs.Trimmed.{Loose, ownFreed};
 
 // Is the version at node v such a one?
-pub fn loose<'a>(
-    state: &'a [u8; 128],
-    tag: &'a [u16; 128],
-    parent: &'a [u8; 128],
-    v: usize,
-) -> bool
+pub fn loose<'a>(state: &'a [u8; 128], tag: &'a [u16; 128], parent: &'a [u8; 128], v: usize) -> bool
     requires { ⌜ Snapshot (treeOf (now state) (now tag) (now parent)) v × Parents (treeOf (now state) (now tag) (now parent)) ⌝ }
     ensures { λ b. ⌜ Decides b (Loose (treeOf (now (state .entry)) (now (tag .entry)) (now (parent .entry))) v) ⌝ }
 {
