@@ -17,16 +17,16 @@ use Rattle.table.specs.Rules.{Meets, here, above}
 use Rattle.table.specs.Laws.{climb-ends}
 use Rattle.asking.specs.Asking.{MeetsAlone}
 
--- a number for each of 128 nodes: it is not 0 where the version at node v alone can read a row of the node. Left free: whether other numbers are 0, since that
--- costs only a question
+-- a number for each of 128 nodes: it is 1 where the version at node v alone can read a row of the node. Left free: the others, since a 1 costs only a
+-- question
 pub record Affected (t : Tree) (v : ℕ) (xs : List ℕ) : Type 0 where
   pub size : length xs ≡ 128
-  pub all : (marks : List ℕ) (g r : ℕ) → g < 128 → MeetsAlone t marks v g r → at xs g ≢ 0
+  pub all : (marks : List ℕ) (g r : ℕ) → g < 128 → MeetsAlone t marks v g r → at xs g ≡ 1
 
 -- while going up from v, with node m next: what v meets has a number, or m meets it too
 pub record Passing (t : Tree) (v : ℕ) (xs : List ℕ) (m : ℕ) : Type 0 where
   pub size : length xs ≡ 128
-  pub met : (marks : List ℕ) (g r : ℕ) → Meets t marks r g v → (at xs g ≢ 0) ⊎ Meets t marks r g m
+  pub met : (marks : List ℕ) (g r : ℕ) → Meets t marks r g v → (at xs g ≡ 1) ⊎ Meets t marks r g m
 
 -- Numbers given one by one, going up
 
@@ -34,21 +34,21 @@ module _ (t : Tree) (v : ℕ) (xs : List ℕ) where
   pub passing-first : length xs ≡ 128 → Passing t v xs v
   passing-first e = record { size = e; met = λ marks g r m. inr m }
 
-  -- node m gets its number, and the way goes on above it
-  pub passing-next : (m x : ℕ) → m < 128 → x ≢ 0 → Passing t v xs m → Passing t v (set xs m x) (up t m)
-  passing-next m x l y p = record {
-    size = length-set xs m x ∙ p .size;
+  -- node m gets its 1, and the way goes on above it
+  pub passing-next : (m : ℕ) → m < 128 → Passing t v xs m → Passing t v (set xs m 1) (up t m)
+  passing-next m l p = record {
+    size = length-set xs m 1 ∙ p .size;
     met = λ marks g r h. ⊎-elim (λ z. inl (kept g z)) (λ d. over marks g r d refl) (p .met marks g r h);
   }
     where
-      new : at (set xs m x) m ≡ x
-      new = getD-set-same xs m x 0 (omega (arith, p .size))
+      new : at (set xs m 1) m ≡ 1
+      new = getD-set-same xs m 1 0 (omega (arith, p .size))
 
-      kept : (g : ℕ) → at xs g ≢ 0 → at (set xs m x) g ≢ 0
-      kept g z = by-cases (ℕ-discrete g m) (λ e q. y (sym (ap (at (set xs m x)) e ∙ new) ∙ q)) (λ e q. z (sym (getD-set-other xs m g x 0 e) ∙ q))
+      kept : (g : ℕ) → at xs g ≡ 1 → at (set xs m 1) g ≡ 1
+      kept g z = by-cases (ℕ-discrete g m) (λ e. ap (at (set xs m 1)) e ∙ new) (λ e. getD-set-other xs m g 1 0 e ∙ z)
 
-      over : (marks : List ℕ) (g r : ℕ) {n : ℕ} → Meets t marks r g n → n ≡ m → (at (set xs m x) g ≢ 0) ⊎ Meets t marks r g (up t m)
-      over marks g r (here e) q = inl (λ w. y (sym (ap (at (set xs m x)) (sym e ∙ q) ∙ new) ∙ w))
+      over : (marks : List ℕ) (g r : ℕ) {n : ℕ} → Meets t marks r g n → n ≡ m → (at (set xs m 1) g ≡ 1) ⊎ Meets t marks r g (up t m)
+      over marks g r (here e) q = inl (ap (at (set xs m 1)) (sym e ∙ q) ∙ new)
       over marks g r (above a z f d) q = inr (rw (← q) d)
 
   -- a living node above v reads what v read there

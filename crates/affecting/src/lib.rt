@@ -3,7 +3,7 @@ ghost use Rattle.trees.specs.Trees.{treeOf, Snapshot};
 ghost use Rattle.trees.specs.Rules.{States, Linked};
 ghost use Rattle.affecting.specs.Affected.{Affected};
 
-// A number for each of these nodes: 1 for its own, and one more at each step up.
+// A 1 for each of these nodes, 0 for the others.
 pub fn affected<'a>(
     state: &'a [u8; 128],
     tag: &'a [u16; 128],
@@ -17,7 +17,7 @@ pub fn affected<'a>(
     let mut m = v;
     let mut k: usize = 0;
     while k < 128 {
-        xs[m] = (k + 1) as u8;
+        xs[m] = 1;
         m = widen::byte(parent[m]);
         if state[m] == 1 {
             return xs;

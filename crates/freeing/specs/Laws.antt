@@ -128,5 +128,5 @@ module _ (t : Tree) (e : Table) (marks : List ℕ) (h : Judging t e marks) (v : 
   alone-not f = tested (lonely t e v i) (λ x. absurd (f (lonely-alone x))) (λ x. x)
 
   -- nor is one of a node that is not affected
-  pub unaffected-not : (xs : List ℕ) → Affected t v xs → at xs (at (e .node) i) ≡ 0 → lonely t e v i ≡ false
-  unaffected-not xs a z = alone-not (λ m. a .all marks (at (e .node) i) (at (e .row) i) node-low m z)
+  pub unaffected-not : (xs : List ℕ) → Affected t v xs → at xs (at (e .node) i) ≢ 1 → lonely t e v i ≡ false
+  unaffected-not xs a z = alone-not (λ m. z (a .all marks (at (e .node) i) (at (e .row) i) node-low m))

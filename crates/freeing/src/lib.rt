@@ -7,7 +7,7 @@ ghost use Rattle.listing.specs.Listed.{Listed};
 ghost use Rattle.table.specs.Rules.{Judging, Nodes};
 ghost use Rattle.asking.specs.Asking.{Childless};
 ghost use Rattle.affecting.specs.Affected.{Affected};
-ghost use Rattle.fencing.specs.Fenced.{Levelled};
+ghost use Rattle.ordering.specs.Ordered.{Ordered};
 ghost use Rattle.removal.specs.Removal.{Freed};
 use measures::Row;
 
@@ -16,7 +16,7 @@ fn free_affected<'a>(
     state: &'a [u8; 128],
     tag: &'a [u16; 128],
     parent: &'a [u8; 128],
-    used: &'a [u8],
+    order: &'a [u8],
     others: &'a [u8; 128],
     first: &'a [u8; 128],
     after: &'a [u8; 128],
@@ -31,25 +31,24 @@ fn free_affected<'a>(
 )
     requires { ⌜ Snapshot (treeOf (now state) (now tag) (now parent)) v × Judging (treeOf (now state) (now tag) (now parent)) (tableOf rows (now node) (now row)) (now marks)
         × Nodes (now first) × Nodes (now after) × Affected (treeOf (now state) (now tag) (now parent)) v (now affected)
-        × (leaf ≡ true → Childless (treeOf (now state) (now tag) (now parent)) v) × Listed (now state) (now used)
-        × (sure ≡ true → Levelled (treeOf (now state) (now tag) (now parent)) v (now affected)) ⌝ }
+        × (leaf ≡ true → Childless (treeOf (now state) (now tag) (now parent)) v)
+        × (sure ≡ true → Ordered (treeOf (now state) (now tag) (now parent)) (now order)) ⌝ }
     ensures { λ x. ⌜ Freed (treeOf (now (state .entry)) (now (tag .entry)) (now (parent .entry))) (tableOf rows (now (node .entry)) (now (row .entry))) v
         (now (node .exit)) (now (row .exit)) ⌝ }
 {
     let mut i: usize = 0;
     while i < node.len() {
         let g = widen::byte(node[i]);
-        if affected[g] != 0 {
+        if affected[g] == 1 {
             let r = Row(widen::pair(row[i]));
-            if fencing::alone(
+            if reaching::alone(
                 state,
                 tag,
                 parent,
-                used,
+                order,
                 others,
                 first,
                 after,
-                affected,
                 sure,
                 marks,
                 v,
@@ -87,12 +86,15 @@ pub fn free_alone<'a>(
     let leaf = nodes::childless(state, tag, parent, v);
     let near = nearing::near(state, tag, parent, used);
     let kin = guessing::kin(state, tag, parent, used, &near);
-    let sure = fencing::levelled(state, tag, parent, used, &affected, v);
+    let queue = ordering::lined_up(&kin.first, &kin.after);
+    let order = queue.node;
+    let k = queue.count;
+    let sure = ordering::ordered(state, tag, parent, used, &order[..k]);
     free_affected(
         state,
         tag,
         parent,
-        used,
+        &order[..k],
         others,
         &kin.first,
         &kin.after,

@@ -1,4 +1,4 @@
--- `affecting::affected` meets its contract: going up, what is passed gets a number. Assumes nothing.
+-- `affecting::affected` meets its contract: going up, what is passed gets a 1. Assumes nothing.
 use borrow.Author.Needs.{needs}
 use Prim.Native.Nat.{ℕ, _-_}
 use mathlib.Core.Path.{_≡_}
@@ -19,12 +19,6 @@ abbrev μ-loop : tie.MeasureT-loop
 
 loop-holds : tie.Need-loop-holds Inv-loop μ-loop
 loop-holds c = let p = c .pre .2 in (climb-first _ _ p, passing-first _ _ _ (length-replicate {A = ℕ} 128 0), p .0)
-
-add-xs : tie.Need-add-xs Inv-loop μ-loop
-add-xs c = search needs
-
-cast-xs : tie.Need-cast-xs Inv-loop μ-loop
-cast-xs c = search needs
 
 array-write-xs : tie.Need-array-write-xs Inv-loop μ-loop
 array-write-xs c = search needs
@@ -49,7 +43,7 @@ returns c =
     let p = l .before .pre in
     let (k, q, z) = l .loop .inv in
     let h = climb-step _ _ _ _ (λ m b. p .1 .parent m) (n .loop-test .taken) z k in
-    passing-end _ _ _ _ (h .used .0, rw (b .byte .ensures) at (c .if1 .taken)) (climb-other _ _ _ _ (p .0) (p .1) (p .2) h) (passing-next _ _ _ _ _ (k .used .0) (λ x. omega (arith, x)) q)
+    passing-end _ _ _ _ (h .used .0, rw (b .byte .ensures) at (c .if1 .taken)) (climb-other _ _ _ _ (p .0) (p .1) (p .2) h) (passing-next _ _ _ _ (k .used .0) q)
 
 add-k : tie.Need-add-k Inv-loop μ-loop
 add-k c = search needs
@@ -66,7 +60,7 @@ loop-again c =
     let (k, q, z) = l .loop .inv in
     rw (b .byte .ensures) (
       climb-step _ _ _ _ (λ m b. p .1 .parent m) (n .loop-test .taken) z k,
-      passing-next _ _ _ _ _ (k .used .0) (λ x. omega (arith, x)) q,
+      passing-next _ _ _ _ (k .used .0) q,
       λ x. c .if1 .left (rw (b .byte .ensures, x) (p .0 .root .0)),
     )
 
@@ -85,8 +79,6 @@ affected-spec =
     Inv-loop
     μ-loop
     loop-holds
-    add-xs
-    cast-xs
     array-write-xs
     element-copy-out-byte
     byte-requires

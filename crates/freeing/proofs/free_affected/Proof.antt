@@ -12,10 +12,10 @@ use Rattle.freeing.proofs.free_affected.Statement.{statement}
 use Rattle.freeing.proofs.free_affected.Tie as tie
 
 abbrev Inv-loop : tie.InvT-loop
-Inv-loop state tag parent used others first after affected sure leaf rows node₀ row₀ marks v i₀ node row i = FreedTo (treeOf state tag parent) (tableOf rows node₀ row₀) v i node row
+Inv-loop state tag parent order others first after affected sure leaf rows node₀ row₀ marks v i₀ node row i = FreedTo (treeOf state tag parent) (tableOf rows node₀ row₀) v i node row
 
 abbrev μ-loop : tie.MeasureT-loop
-μ-loop state tag parent used others first after affected sure leaf rows node₀ row₀ marks v i₀ node row i = length node₀ - i
+μ-loop state tag parent order others first after affected sure leaf rows node₀ row₀ marks v i₀ node row i = length node₀ - i
 
 loop-holds : tie.Need-loop-holds Inv-loop μ-loop
 loop-holds c = freed-start _ _ _
@@ -55,12 +55,10 @@ alone-requires c κs =
     let p = t .before .before .before .before .before .before .pre in
     let x = freed-next _ _ _ _ _ _ d in (
       asking _ _ _ (p .1) _ (p .0) (t .before .loop .i) (omega (arith, t .loop-test .taken, d .nodes)) _ _ (b .byte .ensures ∙ x .0) (c .pair .ensures ∙ x .1),
-      p .6,
       p .2,
       p .3,
       p .5,
-      p .7,
-      i .if1 .taken,
+      p .6,
     )
 
 slice-write-node : tie.Need-slice-write-node Inv-loop μ-loop

@@ -1,4 +1,7 @@
 -- `freeing::free_alone` meets its contract. Assumes nothing.
+use mathlib.Core.Path.{sym}
+use native.Mathlib.Omega.{arith}
+use lib.Seq.{length-take-le}
 use Rattle.basics.specs.Decide.{holds}
 use borrow.Author.Needs.{needs}
 use Rattle.freeing.proofs.free_alone.Statement.{statement}
@@ -20,13 +23,28 @@ near-requires c κs = let p = start c .pre in (λ n l. p .3 .fitting .linked .pa
 kin-requires : tie.Need-kin-requires
 kin-requires c κs = let p = start (c .before .before) .pre in (λ n l. p .3 .fitting .linked .parent n, p .2)
 
-levelled-requires : tie.Need-levelled-requires
-levelled-requires c κs = let p = start (c .before .before .before .before) .pre in (λ n l. p .3 .fitting .linked .parent n, p .2)
+lined-up-requires : tie.Need-lined-up-requires
+lined-up-requires c κs = search needs
+
+array-share-prefix-order : tie.Need-array-share-prefix-order
+array-share-prefix-order c = search needs
+
+slice-aggregate-ordered : tie.Need-slice-aggregate-ordered
+slice-aggregate-ordered c = let e = c .before .before .lined-up .ensures in sym (length-take-le _ _ (omega (arith, e .0 .size, e .1)))
+
+ordered-requires : tie.Need-ordered-requires
+ordered-requires c κs = search needs
+
+array-share-prefix-order-2 : tie.Need-array-share-prefix-order-2
+array-share-prefix-order-2 c = search needs
+
+slice-aggregate-free-affected : tie.Need-slice-aggregate-free-affected
+slice-aggregate-free-affected c = let e = c .before .before .before .before .lined-up .ensures in sym (length-take-le _ _ (omega (arith, e .0 .size, e .1)))
 
 free-affected-requires : tie.Need-free-affected-requires
 free-affected-requires c κs =
-    let s = c .before .before .before .before .before .before in
-    let k = s .before .before in
+    let s = c .before .before .before .before .before .before .before in
+    let k = s .before .before .before .before .before .before .before in
     let h = k .before .before .before in
     let p = start h .pre in (
       p .1,
@@ -35,8 +53,7 @@ free-affected-requires c κs =
       k .kin .ensures .1,
       h .before .affected .ensures,
       λ x. holds (h .childless .result) (h .childless .ensures) x,
-      p .2,
-      λ x. holds (s .levelled .result) (s .levelled .ensures) x,
+      λ x. holds (s .ordered .result) (s .ordered .ensures) x,
     )
 
 same-length : tie.Need-same-length
@@ -56,7 +73,12 @@ free-alone-spec =
     childless-requires
     near-requires
     kin-requires
-    levelled-requires
+    lined-up-requires
+    array-share-prefix-order
+    slice-aggregate-ordered
+    ordered-requires
+    array-share-prefix-order-2
+    slice-aggregate-free-affected
     free-affected-requires
     same-length
     same-length-2

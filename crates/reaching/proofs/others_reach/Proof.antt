@@ -1,0 +1,158 @@
+-- `reaching::others_reach` meets its contract: node by node it is known who meets g. Assumes nothing.
+use borrow.Author.Needs.{needs}
+use borrow.Author.Tests.{not-true, not-false}
+use Prim.Native.Nat.{_<_, _-_}
+use mathlib.Core.Path.{_≡_, refl, sym, _∙_, ap}
+use mathlib.Core.Logic.{⊎-elim}
+use mathlib.Core.Bool.{true, false}
+use native.Mathlib.Omega.{arith}
+use lib.ListN.{length}
+use Rattle.basics.specs.Decide.{at}
+use Rattle.bits.specs.Bits.{has}
+use Rattle.trees.specs.Trees.{treeOf}
+use Rattle.table.specs.Rules.{slot, here}
+use Rattle.ordering.specs.Ordered.{parent-low}
+use Rattle.reaching.specs.Reaching.{Reaching, reaching-first, reaching-apart, reaching-marked, reaching-met, reaching-next, reaching-none}
+use Rattle.reaching.proofs.others_reach.Statement.{statement}
+use Rattle.reaching.proofs.others_reach.Tie as tie
+
+abbrev Inv-loop : tie.InvT-loop
+Inv-loop state tag parent order marks v g r reach₀ j₀ reach j = Reaching (treeOf state tag parent) order marks v g (r .0) reach j
+
+abbrev μ-loop : tie.MeasureT-loop
+μ-loop state tag parent order marks v g r reach₀ j₀ reach j = length order - j
+
+-- the start, from inside the loop
+abbrev start : tie.In-loop Inv-loop μ-loop → tie.Start Inv-loop μ-loop
+start c = c .before .before .before .before .before .before
+
+-- the node is one of the tree, and so is its parent
+node-low : (c : tie.After-byte Inv-loop μ-loop) → c .byte .result < 128
+node-low c = let i = c .before .before in omega (arith, c .byte .ensures, start i .pre .1 .each (i .before .loop .j) (i .loop-test .taken) .1)
+
+parent-is : (c : tie.After-byte2 Inv-loop μ-loop) → (let b = c .before .before in let i = b .before .before in c .byte2 .result ≡ at (start i .args .parent .now) (at (start i .args .order .now) (i .before .loop .j)))
+parent-is c = let b = c .before .before in c .byte2 .ensures ∙ ap (at (start (b .before .before) .args .parent .now)) (b .byte .ensures)
+
+-- whether it has a mark
+marked-is : (c : tie.After-has Inv-loop μ-loop) → (let b = c .before .before .before .before .before in let i = b .before .before in let a = start i .args in c .has .result ≡ has (a .marks .now) (slot (at (a .order .now) (i .before .loop .j)) (a .r .0)))
+marked-is c =
+    let b = c .before .before .before .before .before in
+    let a = start (b .before .before) .args in
+    c .has .ensures ∙ ap (has (a .marks .now)) (c .before .slot .ensures ∙ ap (λ n. slot n (a .r .0)) (b .byte .ensures))
+
+element-copy-out-if1 : tie.Need-element-copy-out-if1 Inv-loop μ-loop
+element-copy-out-if1 c = search needs
+
+returns : tie.Need-returns Inv-loop μ-loop
+returns c =
+    let t = c .before in
+    let p = t .before .before .before .before .pre in
+    (_, ((p .2, t .if1 .taken), c .if2 .taken, here refl))
+
+array-write-reach : tie.Need-array-write-reach Inv-loop μ-loop
+array-write-reach c = search needs
+
+loop-holds : tie.Need-loop-holds Inv-loop μ-loop
+loop-holds c =
+    let p = c .before .before .before .before .pre in
+    reaching-first _ _ _ _ _ _ (p .0 .below) (p .2) (λ a x. ⊎-elim (λ w. x (w .1 .left)) (λ w. w .left (a .1)) (c .if1 .came))
+
+shared-slice-read-byte : tie.Need-shared-slice-read-byte Inv-loop μ-loop
+shared-slice-read-byte c = search needs
+
+byte-requires : tie.Need-byte-requires Inv-loop μ-loop
+byte-requires c κs = search needs
+
+element-copy-out-byte : tie.Need-element-copy-out-byte Inv-loop μ-loop
+element-copy-out-byte c = node-low c
+
+byte-requires-2 : tie.Need-byte-requires-2 Inv-loop μ-loop
+byte-requires-2 c κs = search needs
+
+array-read-if3 : tie.Need-array-read-if3 Inv-loop μ-loop
+array-read-if3 c =
+    let i = c .before .before .before .before in
+    omega (arith, parent-is c, parent-low _ _ (start i .pre .1) (i .before .loop .j) (i .loop-test .taken))
+
+slot-requires : tie.Need-slot-requires Inv-loop μ-loop
+slot-requires c κs =
+    let b = c .before .before .before in
+    (node-low b, start (b .before .before) .pre .0 .row .row)
+
+has-requires : tie.Need-has-requires Inv-loop μ-loop
+has-requires c κs =
+    let b = c .before .before .before .before in
+    let w = start (b .before .before) .pre .0 .row in
+    omega (arith, c .slot .ensures, node-low b, w .row, w .room)
+
+element-copy-out-if5 : tie.Need-element-copy-out-if5 Inv-loop μ-loop
+element-copy-out-if5 c = node-low (c .before .before .before .before .before .before)
+
+returns-2 : tie.Need-returns-2 Inv-loop μ-loop
+returns-2 c =
+    let f = c .before in
+    let h = f .before .before .before in
+    let x = h .before .before in
+    let b = x .before .before .before in
+    let i = b .before .before in
+    let s = start i in
+    (_, ((node-low b, f .if5 .taken), c .if6 .taken, rw (b .byte .ensures) (reaching-met _ _ _ _ _ _ (s .pre .0 .below) (s .pre .1) _ _ (i .loop-test .taken) (i .before .loop .inv) (rw (parent-is (x .before)) at (x .if3 .taken)) (sym (marked-is h) ∙ not-true _ (f .before .before .if4 .taken)))))
+
+array-write-reach-2 : tie.Need-array-write-reach-2 Inv-loop μ-loop
+array-write-reach-2 c = node-low (c .before .before .before .before .before .before .before .before)
+
+add-j : tie.Need-add-j Inv-loop μ-loop
+add-j c = search needs
+
+loop-less : tie.Need-loop-less Inv-loop μ-loop
+loop-less c = search needs
+
+loop-again : tie.Need-loop-again Inv-loop μ-loop
+loop-again c =
+    let y = c .before in
+    let b = y .before .before in
+    let i = b .before .before in
+    let s = start i in
+    let p = s .pre in
+    let v = i .before .loop .inv in
+    ⊎-elim
+    (λ w. rw (w .6, b .byte .ensures) (reaching-next _ _ _ _ _ _ (p .0 .below) (p .1) _ _ (i .loop-test .taken) v (rw (parent-is y) at (w .0 .taken))
+    (sym (marked-is record { before = record { before = record { before = y; if3 = w .0 }; slot = w .1 }; has = w .2 }) ∙ not-true _ (w .3 .taken))
+    (λ a x. ⊎-elim (λ q. x (sym (b .byte .ensures) ∙ q .1 .left)) (λ q. q .left (ap (at (s .args .state .now)) (b .byte .ensures) ∙ a .1)) (w .5 .came))))
+    (⊎-elim
+    (λ w. rw (w .4) (reaching-marked _ _ _ _ _ _ (p .0 .below) (p .1) _ _ (i .loop-test .taken) v
+    (sym (marked-is record { before = record { before = record { before = y; if3 = w .0 }; slot = w .1 }; has = w .2 }) ∙ not-false _ (w .3 .left))))
+    (λ w. rw (w .1) (reaching-apart _ _ _ _ _ _ (p .0 .below) (p .1) _ _ (i .loop-test .taken) v (rw (parent-is y) at (w .0 .left)))))
+    (c .if3 .came)
+
+returns-3 : tie.Need-returns-3 Inv-loop μ-loop
+returns-3 c = λ h.
+    let l = c .before in
+    let s = l .before .before .before .before .before in
+    let e : l .loop .j ≡ length (s .args .order .now) = omega (arith, l .loop .inv .most, c .loop-test .left) in
+    reaching-none _ _ _ _ _ _ (s .pre .0 .below) (s .pre .1) _ (rw e at (l .loop .inv)) h
+
+pub others-reach-spec : {M : Type 1} → statement M
+others-reach-spec =
+    tie.close
+    (tie.spec
+    Inv-loop
+    μ-loop
+    element-copy-out-if1
+    returns
+    array-write-reach
+    loop-holds
+    shared-slice-read-byte
+    byte-requires
+    element-copy-out-byte
+    byte-requires-2
+    array-read-if3
+    slot-requires
+    has-requires
+    element-copy-out-if5
+    returns-2
+    array-write-reach-2
+    add-j
+    loop-less
+    loop-again
+    returns-3)
