@@ -50,7 +50,7 @@ pub fn others_reach<'a>(
 }
 
 // Does the version at node v read node g's own row r, and no other? Of a node without a child it is known. Else a likely other reader is asked first, one below g that is alive in `others`, the states
-// without v. If it is none, the nodes are passed in order; all living versions are asked only if the order is not sure.
+// without v. If it is none, and v itself reads it, the nodes are passed in order; all living versions are asked only if the order is not sure.
 pub fn alone<'a>(
     state: &'a [u8; 128],
     tag: &'a [u16; 128],
@@ -78,11 +78,11 @@ pub fn alone<'a>(
             return true;
         }
     }
-    if !table::meets(state, tag, parent, marks, v, g, r) {
-        return false;
-    }
     let n = guessing::reader(others, parent, first, after, marks, g, r);
     if asking::other_reads(state, tag, parent, marks, n, v, g, r) {
+        return false;
+    }
+    if !table::meets(state, tag, parent, marks, v, g, r) {
         return false;
     }
     if sure {

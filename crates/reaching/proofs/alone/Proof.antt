@@ -16,32 +16,32 @@ returns-2 c =
     let p = i .before .before .before .pre in
     rw (g .if2 .taken) (childless-alone _ _ _ _ (p .0 .linked) (omega (arith, i .if1 .left, g .if2 .taken)) (p .3 (c .if3 .taken)))
 
+reader-requires : tie.Need-reader-requires
+reader-requires c κs =
+    let i = c .before in
+    let p = i .before .before .before .pre in
+    (p .1, p .2, p .0 .row (i .if1 .left), p .0 .node)
+
+other-reads-requires : tie.Need-other-reads-requires
+other-reads-requires c κs =
+    let i = c .before .before in
+    let p = i .before .before .before .pre .0 in
+    (c .reader .ensures, record { linked = p .linked; below = i .if1 .left; row = p .row (i .if1 .left) })
+
+returns-3 : tie.Need-returns-3
+returns-3 c = let o = c .before .other-reads in λ h. h .alone (_, holds (o .result) (o .ensures) (c .if4 .taken))
+
 meets-requires : tie.Need-meets-requires
 meets-requires c κs =
-    let i = c .before in
+    let i = c .before .before .before .before in
     let p = i .before .before .before .pre .0 in
     record {
       seeking = record { linked = p .linked; below = i .if1 .left; row = p .row (i .if1 .left) };
       used = p .used;
     }
 
-returns-3 : tie.Need-returns-3
-returns-3 c = λ h. failed (c .before .meets .result) (c .before .meets .ensures) (c .if4 .taken) (h .meets)
-
-reader-requires : tie.Need-reader-requires
-reader-requires c κs =
-    let i = c .before .before .before in
-    let p = i .before .before .before .pre in
-    (p .1, p .2, p .0 .row (i .if1 .left), p .0 .node)
-
-other-reads-requires : tie.Need-other-reads-requires
-other-reads-requires c κs =
-    let i = c .before .before .before .before in
-    let p = i .before .before .before .pre .0 in
-    (c .reader .ensures, record { linked = p .linked; below = i .if1 .left; row = p .row (i .if1 .left) })
-
 returns-4 : tie.Need-returns-4
-returns-4 c = let o = c .before .other-reads in λ h. h .alone (_, holds (o .result) (o .ensures) (c .if5 .taken))
+returns-4 c = λ h. failed (c .before .meets .result) (c .before .meets .ensures) (c .if5 .taken) (h .meets)
 
 others-reach-requires : tie.Need-others-reach-requires
 others-reach-requires c κs =
@@ -55,11 +55,11 @@ returns-5 c = let o = c .before .others-reach in λ h. h .alone (holds (o .resul
 returns-6 : tie.Need-returns-6
 returns-6 c =
     let o = c .before in
-    let e = o .before .before .before .before .before in
+    let e = o .before .before in
     let m = e .before in
     record {
-      below = m .before .before .if1 .left;
-      meets = passed (m .meets .result) (m .meets .ensures) (e .if4 .left);
+      below = m .before .before .before .before .before .if1 .left;
+      meets = passed (m .meets .result) (m .meets .ensures) (e .if5 .left);
       alone = fails (o .others-reach .result) (o .others-reach .ensures) (c .if7 .left);
     }
 
@@ -75,11 +75,11 @@ returns-7 c = let o = c .before .others-read in λ h. h .alone (holds (o .result
 returns-8 : tie.Need-returns-8
 returns-8 c =
     let o = c .before in
-    let e = o .before .before .before .before .before in
+    let e = o .before .before in
     let m = e .before in
     record {
-      below = m .before .before .if1 .left;
-      meets = passed (m .meets .result) (m .meets .ensures) (e .if4 .left);
+      below = m .before .before .before .before .before .if1 .left;
+      meets = passed (m .meets .result) (m .meets .ensures) (e .if5 .left);
       alone = fails (o .others-read .result) (o .others-read .ensures) (c .if8 .left);
     }
 
@@ -89,10 +89,10 @@ alone-spec =
     (tie.spec
     returns
     returns-2
-    meets-requires
-    returns-3
     reader-requires
     other-reads-requires
+    returns-3
+    meets-requires
     returns-4
     others-reach-requires
     returns-5

@@ -1,6 +1,6 @@
 //! The calls on a store, each as a repetition that is timed.
 
-use crate::hard::SLOW_READER;
+use crate::hard::{Doomed, SLOW_READER};
 use crate::stores::{open, Border, Lent, Stock, CHAIN_ROWS};
 use crate::timing::{timed, timed_changing, Repetition};
 use rowstore_host::dice::Dice;
@@ -119,12 +119,14 @@ fn timed_border_equal<S: Store>(lent: &Lent, borders: Vec<Border>, at_once: bool
     })
 }
 
-fn timed_delete<S: Store>(stock: &Stock) -> Repetition {
-    let mut snapshots = stock.full.tags();
-    snapshots.retain(|&tag| tag != 0);
-    timed_changing(&stock.full.records, move |records, number| {
-        S::delete(records, snapshots[number % snapshots.len()])
+fn timed_delete<S: Store>(lent: &Lent, tags: Vec<u16>) -> Repetition {
+    timed_changing(&lent.records, move |records, number| {
+        S::delete(records, tags[number % tags.len()])
     })
+}
+
+fn timed_doomed<S: Store>((_, lent, tag): &Doomed) -> Repetition {
+    timed_delete::<S>(lent, vec![*tag])
 }
 
 fn timed_count<S: Store>(lent: &Lent) -> Repetition {
@@ -153,7 +155,7 @@ fn timed_calls<S: Store>(stock: &Stock) -> Vec<Repetition> {
         timed_write::<S>(full, false),
         timed_write::<S>(&stock.roomy, true),
         timed_write_equal::<S>(full),
-        timed_delete::<S>(stock),
+        timed_delete::<S>(full, full.snapshots()),
         timed_count::<S>(full),
     ]
 }
@@ -206,6 +208,7 @@ pub struct Timed {
     pub chain: fn(&Lent) -> Vec<Repetition>,
     pub slow: fn(&Lent) -> Vec<Repetition>,
     pub count: fn(&Lent) -> Repetition,
+    pub doomed: fn(&Doomed) -> Repetition,
 }
 
 impl Timed {
@@ -217,6 +220,7 @@ impl Timed {
             chain: timed_chain::<S>,
             slow: timed_slow::<S>,
             count: timed_count::<S>,
+            doomed: timed_doomed::<S>,
         }
     }
 }

@@ -102,6 +102,43 @@ fn deep(beside: Beside, low: Low, in_turn: bool) -> Lent {
     })
 }
 
+/// A store and the version of it that is deleted, for the name of a line.
+pub type Doomed = (&'static str, Lent, u16);
+
+/// Deletes for which much has to be asked: whether another version reads what the first one has.
+pub fn deletes() -> Vec<Doomed> {
+    let chain = (1..=64).map(|node| (node, ALIVE, node - 1));
+    let gap = [(1, ALIVE, 0), (2, GHOST, 1), (3, ALIVE, 2), (4, ALIVE, 2)];
+    let below = (5..=64).map(|node| (node, ALIVE, node - 1));
+    vec![
+        (
+            "delete chain's first",
+            built("chain", chain, |_| [1, 2, 3]),
+            1,
+        ),
+        (
+            "delete above a ghost",
+            built("gap", gap.into_iter().chain(below), |_| [1, 3, 4]),
+            1,
+        ),
+        (
+            "delete deepest pair's",
+            deep(Beside::Pair, Low::Ghosts, false),
+            125,
+        ),
+        (
+            "delete deepest leaf",
+            deep(Beside::Leaf, Low::Ghosts, false),
+            125,
+        ),
+        (
+            "delete leaf with rows",
+            deep(Beside::Leaf, Low::Ghosts, false),
+            126,
+        ),
+    ]
+}
+
 /// A store of these nodes, each given with its state and its parent; a living one's tag is its
 /// number. The owners have entries at their row.
 fn built(

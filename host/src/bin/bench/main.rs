@@ -83,6 +83,15 @@ fn print_deep_ghosts() {
     );
 }
 
+/// A delete at each of some stores of the same measures.
+fn print_deletes() {
+    let all = hard::deletes();
+    let lines: Vec<&str> = all.iter().map(|(line, ..)| *line).collect();
+    print_calls(&all[0].1, &lines, |store| {
+        all.iter().map(store.doomed).collect()
+    });
+}
+
 /// The time of borders of 64 rows, beside 64 writes of the same rows; at least so many are different.
 fn print_borders(stock: &Stock) {
     print!("{:<24}{:>12}", "ns per 64 rows", "different");
@@ -156,6 +165,7 @@ fn main() {
     print_chain();
     print_slow();
     print_deep_ghosts();
+    print_deletes();
     print_growth();
     print_lmdb();
 }

@@ -171,6 +171,10 @@ impl Lent {
         self.parsed().tags()
     }
 
+    pub fn snapshots(&self) -> Vec<u16> {
+        self.tags().into_iter().filter(|&tag| tag != 0).collect()
+    }
+
     pub fn rows(&self) -> usize {
         self.shape.measures.rows
     }
