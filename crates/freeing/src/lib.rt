@@ -17,6 +17,7 @@ fn free_affected<'a>(
     tag: &'a [u16; 128],
     parent: &'a [u8; 128],
     order: &'a [u8],
+    end: &'a [u8; 128],
     others: &'a [u8; 128],
     first: &'a [u8; 128],
     after: &'a [u8; 128],
@@ -32,7 +33,7 @@ fn free_affected<'a>(
     requires { ⌜ Snapshot (treeOf (now state) (now tag) (now parent)) v × Judging (treeOf (now state) (now tag) (now parent)) (tableOf rows (now node) (now row)) (now marks)
         × Nodes (now first) × Nodes (now after) × Affected (treeOf (now state) (now tag) (now parent)) v (now affected)
         × (leaf ≡ true → Childless (treeOf (now state) (now tag) (now parent)) v)
-        × (sure ≡ true → Ordered (treeOf (now state) (now tag) (now parent)) (now order)) ⌝ }
+        × (sure ≡ true → Ordered (treeOf (now state) (now tag) (now parent)) (now order) (now end)) ⌝ }
     ensures { λ x. ⌜ Freed (treeOf (now (state .entry)) (now (tag .entry)) (now (parent .entry))) (tableOf rows (now (node .entry)) (now (row .entry))) v
         (now (node .exit)) (now (row .exit)) ⌝ }
 {
@@ -46,6 +47,7 @@ fn free_affected<'a>(
                 tag,
                 parent,
                 order,
+                end,
                 others,
                 first,
                 after,
@@ -89,12 +91,13 @@ pub fn free_alone<'a>(
     let queue = ordering::lined_up(&kin.first, &kin.after);
     let order = queue.node;
     let k = queue.count;
-    let sure = ordering::ordered(state, tag, parent, used, &order[..k]);
+    let sure = ordering::ordered(state, tag, parent, used, &order[..k], &queue.end);
     free_affected(
         state,
         tag,
         parent,
         &order[..k],
+        &queue.end,
         others,
         &kin.first,
         &kin.after,

@@ -9,9 +9,10 @@ ghost use Rattle.listing.specs.Listed.{Listed};
 ghost use Rattle.table.specs.Rules.{Nodes};
 ghost use Rattle.ordering.specs.Ordered.{Follows, Ordered, Noting};
 
-// Nodes side by side: the first ones of 128.
+// Nodes side by side, the first ones of 128, and for each node the position behind its children.
 pub struct Queue {
     pub node: [u8; 128],
+    pub end: [u8; 128],
     pub count: usize,
 }
 
@@ -39,21 +40,28 @@ pub fn lined_up<'a>(first: &'a [u8; 128], after: &'a [u8; 128]) -> Queue
     ensures { λ q. ⌜ Nodes (q .node) × (q .count ≤ 128) ⌝ }
 {
     let mut node = [0u8; 128];
+    let mut end = [0u8; 128];
     let mut count = join(after, &mut node, 0, first[0]);
     let mut i: usize = 0;
     while i < count {
         let p = widen::byte(node[i]);
         count = join(after, &mut node, count, first[p]);
+        end[p] = count as u8;
         i += 1;
     }
-    Queue { node, count }
+    Queue { node, end, count }
 }
 
-// Does each node of a list come after its parent? They are noted.
-fn parents_first<'a>(parent: &'a [u8; 128], order: &'a [u8], seen: &mut [u8]) -> bool
+// Does each node of a list come after its parent, and before the end of its parent's children? They are noted.
+fn parents_first<'a>(
+    parent: &'a [u8; 128],
+    order: &'a [u8],
+    end: &'a [u8; 128],
+    seen: &mut [u8],
+) -> bool
     requires { ⌜ (length (now seen) ≡ 128) × ((n : ℕ) → at (now seen) n ≡ 0) ⌝ }
-    ensures { λ b. ⌜ (length (now (seen .exit)) ≡ 128) × (b ≡ true → Noting (now (parent .entry)) (now (order .entry)) (now (seen .exit)) (length (now (order .entry))))
-        × (b ≡ false → ((j : ℕ) → j < length (now (order .entry)) → Follows (now (parent .entry)) (now (order .entry)) j) → ⊥) ⌝ }
+    ensures { λ b. ⌜ (length (now (seen .exit)) ≡ 128) × (b ≡ true → Noting (now (parent .entry)) (now (order .entry)) (now (end .entry)) (now (seen .exit)) (length (now (order .entry))))
+        × (b ≡ false → ((j : ℕ) → j < length (now (order .entry)) → Follows (now (parent .entry)) (now (order .entry)) (now (end .entry)) j) → ⊥) ⌝ }
 {
     let mut j: usize = 0;
     while j < order.len() {
@@ -70,6 +78,9 @@ fn parents_first<'a>(parent: &'a [u8; 128], order: &'a [u8], seen: &mut [u8]) ->
         }
         if p != 0 {
             if seen[p] != 1 {
+                return false;
+            }
+            if j >= widen::byte(end[p]) {
                 return false;
             }
         }
@@ -94,19 +105,20 @@ fn all_noted<'a>(used: &'a [u8], seen: &'a [u8]) -> bool
     true
 }
 
-// Has a list all nodes in use, each after its parent?
+// Has a list all nodes in use, each after its parent and before the end of its parent's children?
 pub fn ordered<'a>(
     state: &'a [u8; 128],
     tag: &'a [u16; 128],
     parent: &'a [u8; 128],
     used: &'a [u8],
     order: &'a [u8],
+    end: &'a [u8; 128],
 ) -> bool
     requires { ⌜ Listed (now state) (now used) ⌝ }
-    ensures { λ b. ⌜ Decides b (Ordered (treeOf (now (state .entry)) (now (tag .entry)) (now (parent .entry))) (now (order .entry))) ⌝ }
+    ensures { λ b. ⌜ Decides b (Ordered (treeOf (now (state .entry)) (now (tag .entry)) (now (parent .entry))) (now (order .entry)) (now (end .entry))) ⌝ }
 {
     let mut seen = [0u8; 128];
-    if !parents_first(parent, order, &mut seen) {
+    if !parents_first(parent, order, end, &mut seen) {
         return false;
     }
     all_noted(used, &seen)

@@ -1,7 +1,7 @@
 // Is a node's own row read by one version alone? The nodes are passed in an order in which each comes after its parent, so that one pass tells who reads it.
 ghost use mathlib.Core.Bool.{true};
 ghost use mathlib.Core.Path.{_≡_};
-ghost use Prim.Native.Nat.{_<_};
+ghost use Prim.Native.Nat.{_≤_, _<_};
 ghost use Rattle.basics.specs.Decide.{Decides};
 ghost use Rattle.trees.specs.Trees.{treeOf};
 ghost use Rattle.table.specs.Rules.{Seeking, Nodes};
@@ -9,18 +9,30 @@ ghost use Rattle.asking.specs.Asking.{Asking, OthersMeet, MeetsAlone, Childless
 ghost use Rattle.ordering.specs.Ordered.{Ordered};
 use measures::Row;
 
-// Does a living version other than the one at node v read node g's own row r? Each node that meets g is noted, if its parent is and it has no mark.
+// The greater of two numbers.
+fn later(a: usize, b: usize) -> usize
+    ensures { λ m. ⌜ (a ≤ m) × (b ≤ m) ⌝ }
+{
+    if a < b {
+        return b;
+    }
+    a
+}
+
+// Does a living version other than the one at node v read node g's own row r? Each node that meets g is noted, if its parent is and it has no mark. Past the children of those
+// that are noted there is nothing to find.
 pub fn others_reach<'a>(
     state: &'a [u8; 128],
     tag: &'a [u16; 128],
     parent: &'a [u8; 128],
     order: &'a [u8],
+    end: &'a [u8; 128],
     marks: &'a [u8],
     v: usize,
     g: usize,
     r: Row,
 ) -> bool
-    requires { ⌜ Seeking (treeOf (now state) (now tag) (now parent)) (now marks) g (r .0) × Ordered (treeOf (now state) (now tag) (now parent)) (now order) × (g < 128) ⌝ }
+    requires { ⌜ Seeking (treeOf (now state) (now tag) (now parent)) (now marks) g (r .0) × Ordered (treeOf (now state) (now tag) (now parent)) (now order) (now end) × (g < 128) ⌝ }
     ensures { λ b. ⌜ Decides b (OthersMeet (treeOf (now (state .entry)) (now (tag .entry)) (now (parent .entry))) (now (marks .entry)) v g (r .0)) ⌝ }
 {
     if state[g] == 1 {
@@ -30,8 +42,12 @@ pub fn others_reach<'a>(
     }
     let mut reach = [0u8; 128];
     reach[g] = 1;
+    let mut far = widen::byte(end[g]);
     let mut j: usize = 0;
     while j < order.len() {
+        if far <= j {
+            return false;
+        }
         let c = widen::byte(order[j]);
         let p = widen::byte(parent[c]);
         if reach[p] == 1 {
@@ -42,6 +58,7 @@ pub fn others_reach<'a>(
                     }
                 }
                 reach[c] = 1;
+                far = later(far, widen::byte(end[c]));
             }
         }
         j += 1;
@@ -56,6 +73,7 @@ pub fn alone<'a>(
     tag: &'a [u16; 128],
     parent: &'a [u8; 128],
     order: &'a [u8],
+    end: &'a [u8; 128],
     others: &'a [u8; 128],
     first: &'a [u8; 128],
     after: &'a [u8; 128],
@@ -67,7 +85,7 @@ pub fn alone<'a>(
     r: Row,
 ) -> bool
     requires { ⌜ Asking (treeOf (now state) (now tag) (now parent)) (now marks) v g (r .0) × Nodes (now first) × Nodes (now after)
-        × (leaf ≡ true → Childless (treeOf (now state) (now tag) (now parent)) v) × (sure ≡ true → Ordered (treeOf (now state) (now tag) (now parent)) (now order)) ⌝ }
+        × (leaf ≡ true → Childless (treeOf (now state) (now tag) (now parent)) v) × (sure ≡ true → Ordered (treeOf (now state) (now tag) (now parent)) (now order) (now end)) ⌝ }
     ensures { λ b. ⌜ Decides b (MeetsAlone (treeOf (now (state .entry)) (now (tag .entry)) (now (parent .entry))) (now (marks .entry)) v g (r .0)) ⌝ }
 {
     if g == 0 {
@@ -86,7 +104,7 @@ pub fn alone<'a>(
         return false;
     }
     if sure {
-        if others_reach(state, tag, parent, order, marks, v, g, r) {
+        if others_reach(state, tag, parent, order, end, marks, v, g, r) {
             return false;
         }
         return true;

@@ -12,10 +12,10 @@ use Rattle.freeing.proofs.free_affected.Statement.{statement}
 use Rattle.freeing.proofs.free_affected.Tie as tie
 
 abbrev Inv-loop : tie.InvT-loop
-Inv-loop state tag parent order others first after affected sure leaf rows node₀ row₀ marks v i₀ node row i = FreedTo (treeOf state tag parent) (tableOf rows node₀ row₀) v i node row
+Inv-loop state tag parent order end others first after affected sure leaf rows node₀ row₀ marks v i₀ node row i = FreedTo (treeOf state tag parent) (tableOf rows node₀ row₀) v i node row
 
 abbrev μ-loop : tie.MeasureT-loop
-μ-loop state tag parent order others first after affected sure leaf rows node₀ row₀ marks v i₀ node row i = length node₀ - i
+μ-loop state tag parent order end others first after affected sure leaf rows node₀ row₀ marks v i₀ node row i = length node₀ - i
 
 loop-holds : tie.Need-loop-holds Inv-loop μ-loop
 loop-holds c = freed-start _ _ _

@@ -33,18 +33,18 @@ slice-aggregate-ordered : tie.Need-slice-aggregate-ordered
 slice-aggregate-ordered c = let e = c .before .before .lined-up .ensures in sym (length-take-le _ _ (omega (arith, e .0 .size, e .1)))
 
 ordered-requires : tie.Need-ordered-requires
-ordered-requires c κs = search needs
+ordered-requires c κs = start (c .before .before .before .before .before .before .before .before .before .before .before) .pre .2
 
 array-share-prefix-order-2 : tie.Need-array-share-prefix-order-2
 array-share-prefix-order-2 c = search needs
 
 slice-aggregate-free-affected : tie.Need-slice-aggregate-free-affected
-slice-aggregate-free-affected c = let e = c .before .before .before .before .lined-up .ensures in sym (length-take-le _ _ (omega (arith, e .0 .size, e .1)))
+slice-aggregate-free-affected c = let e = c .before .before .before .before .before .before .lined-up .ensures in sym (length-take-le _ _ (omega (arith, e .0 .size, e .1)))
 
 free-affected-requires : tie.Need-free-affected-requires
 free-affected-requires c κs =
-    let s = c .before .before .before .before .before .before .before in
-    let k = s .before .before .before .before .before .before .before in
+    let s = c .before .before .before .before .before .before .before .before .before in
+    let k = s .before .before .before .before .before .before .before .before .before in
     let h = k .before .before .before in
     let p = start h .pre in (
       p .1,

@@ -8,10 +8,10 @@ use Rattle.ordering.proofs.lined_up.Statement.{statement}
 use Rattle.ordering.proofs.lined_up.Tie as tie
 
 abbrev Inv-loop : tie.InvT-loop
-Inv-loop first after node₀ count₀ i₀ node count i = Nodes node × (count ≤ 128) × (i ≤ 128)
+Inv-loop first after node₀ end₀ count₀ i₀ node end count i = Nodes node × (count ≤ 128) × (i ≤ 128)
 
 abbrev μ-loop : tie.MeasureT-loop
-μ-loop first after node₀ count₀ i₀ node count i = 128 - i
+μ-loop first after node₀ end₀ count₀ i₀ node end count i = 128 - i
 
 slice-aggregate-join : tie.Need-slice-aggregate-join Inv-loop μ-loop
 slice-aggregate-join c = search needs
@@ -50,6 +50,12 @@ join-requires-2 c κs =
     let p = l .before .before .before .before .before .pre in
     (p .1, l .loop .inv .0, l .loop .inv .1, p .0 .node _ (low b))
 
+cast-end : tie.Need-cast-end Inv-loop μ-loop
+cast-end c = search needs
+
+array-write-end : tie.Need-array-write-end Inv-loop μ-loop
+array-write-end c = low (c .before .before .before .before)
+
 add-i : tie.Need-add-i Inv-loop μ-loop
 add-i c = search needs
 
@@ -77,6 +83,8 @@ lined-up-spec =
     slice-aggregate-join-2
     element-copy-out-join-2
     join-requires-2
+    cast-end
+    array-write-end
     add-i
     loop-less
     loop-again

@@ -33,7 +33,7 @@ returns-2 c =
     let f = x .before .before in
     let s = f .before .before .before .before in
     let a = s .args in
-    decides-iff (c .all-noted .result) (ordered-all (treeOf (a .state .now) (a .tag .now) (a .parent .now)) _ _ _ (s .pre) (f .parents-first .ensures .1 (not-false _ (x .if1 .left)))) (c .all-noted .ensures)
+    decides-iff (c .all-noted .result) (ordered-all (treeOf (a .state .now) (a .tag .now) (a .parent .now)) _ _ _ _ (s .pre) (f .parents-first .ensures .1 (not-false _ (x .if1 .left)))) (c .all-noted .ensures)
 
 pub ordered-spec : {M : Type 1} → statement M
 ordered-spec =

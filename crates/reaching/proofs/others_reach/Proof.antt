@@ -3,7 +3,7 @@ use borrow.Author.Needs.{needs}
 use borrow.Author.Tests.{not-true, not-false}
 use Prim.Native.Nat.{_<_, _-_}
 use mathlib.Core.Path.{_≡_, refl, sym, _∙_, ap}
-use mathlib.Core.Logic.{⊎-elim}
+use mathlib.Core.Logic.{⊎-elim, inl, inr}
 use mathlib.Core.Bool.{true, false}
 use native.Mathlib.Omega.{arith}
 use lib.ListN.{length}
@@ -17,28 +17,28 @@ use Rattle.reaching.proofs.others_reach.Statement.{statement}
 use Rattle.reaching.proofs.others_reach.Tie as tie
 
 abbrev Inv-loop : tie.InvT-loop
-Inv-loop state tag parent order marks v g r reach₀ j₀ reach j = Reaching (treeOf state tag parent) order marks v g (r .0) reach j
+Inv-loop state tag parent order end marks v g r reach₀ far₀ j₀ reach far j = Reaching (treeOf state tag parent) order end marks v g (r .0) reach far j
 
 abbrev μ-loop : tie.MeasureT-loop
-μ-loop state tag parent order marks v g r reach₀ j₀ reach j = length order - j
+μ-loop state tag parent order end marks v g r reach₀ far₀ j₀ reach far j = length order - j
 
 -- the start, from inside the loop
 abbrev start : tie.In-loop Inv-loop μ-loop → tie.Start Inv-loop μ-loop
-start c = c .before .before .before .before .before .before
+start c = c .before .before .before .before .before .before .before .before
 
 -- the node is one of the tree, and so is its parent
-node-low : (c : tie.After-byte Inv-loop μ-loop) → c .byte .result < 128
-node-low c = let i = c .before .before in omega (arith, c .byte .ensures, start i .pre .1 .each (i .before .loop .j) (i .loop-test .taken) .1)
+node-low : (c : tie.After-byte2 Inv-loop μ-loop) → c .byte2 .result < 128
+node-low c = let i = c .before .before .before in omega (arith, c .byte2 .ensures, start i .pre .1 .each (i .before .loop .j) (i .loop-test .taken) .1)
 
-parent-is : (c : tie.After-byte2 Inv-loop μ-loop) → (let b = c .before .before in let i = b .before .before in c .byte2 .result ≡ at (start i .args .parent .now) (at (start i .args .order .now) (i .before .loop .j)))
-parent-is c = let b = c .before .before in c .byte2 .ensures ∙ ap (at (start (b .before .before) .args .parent .now)) (b .byte .ensures)
+parent-is : (c : tie.After-byte3 Inv-loop μ-loop) → (let i = c .before .before .before .before .before in c .byte3 .result ≡ at (start i .args .parent .now) (at (start i .args .order .now) (i .before .loop .j)))
+parent-is c = let b = c .before .before in c .byte3 .ensures ∙ ap (at (start (b .before .before .before) .args .parent .now)) (b .byte2 .ensures)
 
 -- whether it has a mark
-marked-is : (c : tie.After-has Inv-loop μ-loop) → (let b = c .before .before .before .before .before in let i = b .before .before in let a = start i .args in c .has .result ≡ has (a .marks .now) (slot (at (a .order .now) (i .before .loop .j)) (a .r .0)))
+marked-is : (c : tie.After-has Inv-loop μ-loop) → (let i = c .before .before .before .before .before .before .before .before in let a = start i .args in c .has .result ≡ has (a .marks .now) (slot (at (a .order .now) (i .before .loop .j)) (a .r .0)))
 marked-is c =
     let b = c .before .before .before .before .before in
-    let a = start (b .before .before) .args in
-    c .has .ensures ∙ ap (has (a .marks .now)) (c .before .slot .ensures ∙ ap (λ n. slot n (a .r .0)) (b .byte .ensures))
+    let a = start (b .before .before .before) .args in
+    c .has .ensures ∙ ap (has (a .marks .now)) (c .before .slot .ensures ∙ ap (λ n. slot n (a .r .0)) (b .byte2 .ensures))
 
 element-copy-out-if1 : tie.Need-element-copy-out-if1 Inv-loop μ-loop
 element-copy-out-if1 c = search needs
@@ -52,54 +52,76 @@ returns c =
 array-write-reach : tie.Need-array-write-reach Inv-loop μ-loop
 array-write-reach c = search needs
 
-loop-holds : tie.Need-loop-holds Inv-loop μ-loop
-loop-holds c =
-    let p = c .before .before .before .before .pre in
-    reaching-first _ _ _ _ _ _ (p .0 .below) (p .2) (λ a x. ⊎-elim (λ w. x (w .1 .left)) (λ w. w .left (a .1)) (c .if1 .came))
-
-shared-slice-read-byte : tie.Need-shared-slice-read-byte Inv-loop μ-loop
-shared-slice-read-byte c = search needs
+element-copy-out-byte : tie.Need-element-copy-out-byte Inv-loop μ-loop
+element-copy-out-byte c = search needs
 
 byte-requires : tie.Need-byte-requires Inv-loop μ-loop
 byte-requires c κs = search needs
 
-element-copy-out-byte : tie.Need-element-copy-out-byte Inv-loop μ-loop
-element-copy-out-byte c = node-low c
+loop-holds : tie.Need-loop-holds Inv-loop μ-loop
+loop-holds c =
+    let i = c .before .before in
+    let p = i .before .before .before .before .pre in
+    rw (c .byte .ensures) (reaching-first _ _ _ _ _ _ _ (p .0 .below) (p .2) (λ a x. ⊎-elim (λ w. x (w .1 .left)) (λ w. w .left (a .1)) (i .if1 .came)))
+
+returns-2 : tie.Need-returns-2 Inv-loop μ-loop
+returns-2 c = λ h.
+    let i = c .before in
+    let p = start i .pre in
+    reaching-none _ _ _ _ _ _ _ (p .0 .below) (p .0 .linked) (p .1) _ _ _ (i .before .loop .inv) (inl (c .if3 .taken)) h
+
+shared-slice-read-byte : tie.Need-shared-slice-read-byte Inv-loop μ-loop
+shared-slice-read-byte c = search needs
 
 byte-requires-2 : tie.Need-byte-requires-2 Inv-loop μ-loop
 byte-requires-2 c κs = search needs
 
-array-read-if3 : tie.Need-array-read-if3 Inv-loop μ-loop
-array-read-if3 c =
-    let i = c .before .before .before .before in
-    omega (arith, parent-is c, parent-low _ _ (start i .pre .1) (i .before .loop .j) (i .loop-test .taken))
+element-copy-out-byte-2 : tie.Need-element-copy-out-byte-2 Inv-loop μ-loop
+element-copy-out-byte-2 c = node-low c
+
+byte-requires-3 : tie.Need-byte-requires-3 Inv-loop μ-loop
+byte-requires-3 c κs = search needs
+
+array-read-if4 : tie.Need-array-read-if4 Inv-loop μ-loop
+array-read-if4 c =
+    let i = c .before .before .before .before .before in
+    omega (arith, parent-is c, parent-low _ _ _ (start i .pre .1) (i .before .loop .j) (i .loop-test .taken))
 
 slot-requires : tie.Need-slot-requires Inv-loop μ-loop
 slot-requires c κs =
     let b = c .before .before .before in
-    (node-low b, start (b .before .before) .pre .0 .row .row)
+    (node-low b, start (b .before .before .before) .pre .0 .row .row)
 
 has-requires : tie.Need-has-requires Inv-loop μ-loop
 has-requires c κs =
     let b = c .before .before .before .before in
-    let w = start (b .before .before) .pre .0 .row in
+    let w = start (b .before .before .before) .pre .0 .row in
     omega (arith, c .slot .ensures, node-low b, w .row, w .room)
 
-element-copy-out-if5 : tie.Need-element-copy-out-if5 Inv-loop μ-loop
-element-copy-out-if5 c = node-low (c .before .before .before .before .before .before)
+element-copy-out-if6 : tie.Need-element-copy-out-if6 Inv-loop μ-loop
+element-copy-out-if6 c = node-low (c .before .before .before .before .before .before)
 
-returns-2 : tie.Need-returns-2 Inv-loop μ-loop
-returns-2 c =
+returns-3 : tie.Need-returns-3 Inv-loop μ-loop
+returns-3 c =
     let f = c .before in
     let h = f .before .before .before in
     let x = h .before .before in
     let b = x .before .before .before in
-    let i = b .before .before in
+    let i = b .before .before .before in
     let s = start i in
-    (_, ((node-low b, f .if5 .taken), c .if6 .taken, rw (b .byte .ensures) (reaching-met _ _ _ _ _ _ (s .pre .0 .below) (s .pre .1) _ _ (i .loop-test .taken) (i .before .loop .inv) (rw (parent-is (x .before)) at (x .if3 .taken)) (sym (marked-is h) ∙ not-true _ (f .before .before .if4 .taken)))))
+    (_, ((node-low b, f .if6 .taken), c .if7 .taken, rw (b .byte2 .ensures) (reaching-met _ _ _ _ _ _ _ (s .pre .0 .below) (s .pre .1) _ _ _ (i .loop-test .taken) (i .before .loop .inv) (rw (parent-is (x .before)) at (x .if4 .taken)) (sym (marked-is h) ∙ not-true _ (f .before .before .if5 .taken)))))
 
 array-write-reach-2 : tie.Need-array-write-reach-2 Inv-loop μ-loop
 array-write-reach-2 c = node-low (c .before .before .before .before .before .before .before .before)
+
+element-copy-out-byte-3 : tie.Need-element-copy-out-byte-3 Inv-loop μ-loop
+element-copy-out-byte-3 c = node-low (c .before .before .before .before .before .before .before .before)
+
+byte-requires-4 : tie.Need-byte-requires-4 Inv-loop μ-loop
+byte-requires-4 c κs = search needs
+
+later-requires : tie.Need-later-requires Inv-loop μ-loop
+later-requires c κs = search needs
 
 add-j : tie.Need-add-j Inv-loop μ-loop
 add-j c = search needs
@@ -111,26 +133,26 @@ loop-again : tie.Need-loop-again Inv-loop μ-loop
 loop-again c =
     let y = c .before in
     let b = y .before .before in
-    let i = b .before .before in
+    let i = b .before .before .before in
     let s = start i in
     let p = s .pre in
     let v = i .before .loop .inv in
     ⊎-elim
-    (λ w. rw (w .6, b .byte .ensures) (reaching-next _ _ _ _ _ _ (p .0 .below) (p .1) _ _ (i .loop-test .taken) v (rw (parent-is y) at (w .0 .taken))
-    (sym (marked-is record { before = record { before = record { before = y; if3 = w .0 }; slot = w .1 }; has = w .2 }) ∙ not-true _ (w .3 .taken))
-    (λ a x. ⊎-elim (λ q. x (sym (b .byte .ensures) ∙ q .1 .left)) (λ q. q .left (ap (at (s .args .state .now)) (b .byte .ensures) ∙ a .1)) (w .5 .came))))
+    (λ w. rw (w .9, w .10, b .byte2 .ensures) (reaching-next _ _ _ _ _ _ _ (p .0 .below) (p .1) _ _ _ (i .loop-test .taken) v (rw (parent-is y) at (w .0 .taken))
+    (sym (marked-is record { before = record { before = record { before = y; if4 = w .0 }; slot = w .1 }; has = w .2 }) ∙ not-true _ (w .3 .taken))
+    (λ a x. ⊎-elim (λ q. x (sym (b .byte2 .ensures) ∙ q .1 .left)) (λ q. q .left (ap (at (s .args .state .now)) (b .byte2 .ensures) ∙ a .1)) (w .5 .came))
+    _ (w .8 .ensures .0) (rw (w .7 .ensures, b .byte2 .ensures) at (w .8 .ensures .1))))
     (⊎-elim
-    (λ w. rw (w .4) (reaching-marked _ _ _ _ _ _ (p .0 .below) (p .1) _ _ (i .loop-test .taken) v
-    (sym (marked-is record { before = record { before = record { before = y; if3 = w .0 }; slot = w .1 }; has = w .2 }) ∙ not-false _ (w .3 .left))))
-    (λ w. rw (w .1) (reaching-apart _ _ _ _ _ _ (p .0 .below) (p .1) _ _ (i .loop-test .taken) v (rw (parent-is y) at (w .0 .left)))))
-    (c .if3 .came)
+    (λ w. rw (w .4, w .5) (reaching-marked _ _ _ _ _ _ _ (p .0 .below) (p .1) _ _ _ (i .loop-test .taken) v
+    (sym (marked-is record { before = record { before = record { before = y; if4 = w .0 }; slot = w .1 }; has = w .2 }) ∙ not-false _ (w .3 .left))))
+    (λ w. rw (w .1, w .2) (reaching-apart _ _ _ _ _ _ _ (p .0 .below) (p .1) _ _ _ (i .loop-test .taken) v (rw (parent-is y) at (w .0 .left)))))
+    (c .if4 .came)
 
-returns-3 : tie.Need-returns-3 Inv-loop μ-loop
-returns-3 c = λ h.
+returns-4 : tie.Need-returns-4 Inv-loop μ-loop
+returns-4 c = λ h.
     let l = c .before in
-    let s = l .before .before .before .before .before in
-    let e : l .loop .j ≡ length (s .args .order .now) = omega (arith, l .loop .inv .most, c .loop-test .left) in
-    reaching-none _ _ _ _ _ _ (s .pre .0 .below) (s .pre .1) _ (rw e at (l .loop .inv)) h
+    let p = l .before .before .before .before .before .before .before .pre in
+    reaching-none _ _ _ _ _ _ _ (p .0 .below) (p .0 .linked) (p .1) _ _ _ (l .loop .inv) (inr (c .loop-test .left)) h
 
 pub others-reach-spec : {M : Type 1} → statement M
 others-reach-spec =
@@ -141,18 +163,24 @@ others-reach-spec =
     element-copy-out-if1
     returns
     array-write-reach
-    loop-holds
-    shared-slice-read-byte
-    byte-requires
     element-copy-out-byte
+    byte-requires
+    loop-holds
+    returns-2
+    shared-slice-read-byte
     byte-requires-2
-    array-read-if3
+    element-copy-out-byte-2
+    byte-requires-3
+    array-read-if4
     slot-requires
     has-requires
-    element-copy-out-if5
-    returns-2
+    element-copy-out-if6
+    returns-3
     array-write-reach-2
+    element-copy-out-byte-3
+    byte-requires-4
+    later-requires
     add-j
     loop-less
     loop-again
-    returns-3)
+    returns-4)
