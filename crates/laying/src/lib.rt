@@ -105,9 +105,7 @@ fn few_to(bytes: &[u8]) -> usize
     requires { ⌜ length (now bytes) ≡ 256 ⌝ }
     ensures { λ stop. ⌜ Stops (now (bytes .entry)) stop ⌝ }
 {
-    let from: usize = 32;
-    let to: usize = 256;
-    if scanning::zero(&bytes[from..to]) {
+    if scanning::zero_part(bytes, 32, 256) {
         return 16;
     }
     128
@@ -124,7 +122,7 @@ pub fn load_few(bytes: &[u8], to: &mut [u16])
         let end = n + 16;
         let first = 2 * n;
         let last = 2 * end;
-        if !scanning::zero(&bytes[first..last]) {
+        if !scanning::zero_part(bytes, first, last) {
             load_stretch(bytes, to, n, end);
         }
         n = end;

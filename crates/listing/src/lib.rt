@@ -12,7 +12,7 @@ pub fn idle_from(state: &[u8], n: usize) -> bool
     ensures { λ b. ⌜ Decides b (ZeroFrom (now (state .entry)) n (n + 16)) ⌝ }
 {
     let to = n + 16;
-    scanning::zero(&state[n..to])
+    scanning::zero_part(state, n, to)
 }
 
 // Up to where nodes are in use: few trees have one past the first 16, and that is soon told.
@@ -20,12 +20,10 @@ fn busy_to(state: &[u8]) -> usize
     requires { ⌜ length (now state) ≡ 128 ⌝ }
     ensures { λ end. ⌜ Ends (now (state .entry)) end ⌝ }
 {
-    let from: usize = 16;
-    let to: usize = 128;
-    if scanning::zero(&state[from..to]) {
-        return from;
+    if scanning::zero_part(state, 16, 128) {
+        return 16;
     }
-    to
+    128
 }
 
 // The nodes in use from one node to another join the list, which has k already.

@@ -1,7 +1,7 @@
 -- Who reads a node's own row, with the nodes passed in order, each after its parent. Assumes nothing.
 use mathlib.Core.Path.{_≡_, sym, _∙_, ap}
 use mathlib.Core.Logic.{_≢_, _⊎_, inl, inr, by-cases, ⊎-elim}
-use mathlib.Core.Bool.{true, false, false≢true}
+use mathlib.Core.Bool.{false}
 use mathlib.Core.List.{List}
 use Prim.Native.Nat.{ℕ, _+_, _≤_, _<_}
 use native.Mathlib.Decide.{ℕ-discrete}
@@ -58,39 +58,27 @@ module _ (t : Tree) (order end marks : List ℕ) (v g r : ℕ) (z : g ≢ 0) whe
       only n x = by-cases (ℕ-discrete n g) (λ e. e) (λ e. absurd (omega (arith, x, getD-set-other {A = ℕ} (replicate 128 0) g n 1 0 e, zeros n)))
 
   module _ (o : Ordered t order end) (reach : List ℕ) (far j : ℕ) (l : j < length order) (h : Reaching t order end marks v g r reach far j) where
-    -- the next node does not meet g, or has its number already
-    reaching-past : (Meets t marks r g (at order j) → at reach (at order j) ≡ 1) → Reaching t order end marks v g r reach far (j + 1)
-    reaching-past f = record {
+    -- the next node has a mark, or its parent does not meet g
+    pub reaching-past : ((at reach (up t (at order j)) ≡ 1) × (has marks (slot (at order j) r) ≡ false) → ⊥) → Reaching t order end marks v g r reach far (j + 1)
+    reaching-past q = record {
       size = h .size;
       most = omega arith;
       own = h .own;
       met = h .met;
-      all = λ i b m. by-cases (ℕ-discrete i j) (λ e. rw e (f (rw e at m))) (λ e. h .all i (omega arith) m);
+      all = λ i b m. by-cases (ℕ-discrete i j) (λ e. rw e (go (rw e at m))) (λ e. h .all i (omega arith) m);
       quiet = h .quiet;
       bound = h .bound;
     }
-
-    -- its parent does not meet g
-    pub reaching-apart : at reach (up t (at order j)) ≢ 1 → Reaching t order end marks v g r reach far (j + 1)
-    reaching-apart e = reaching-past go
       where
-        parent : Meets t marks r g (up t (at order j)) → (up t (at order j) ≡ 0) ⊎ ((i : ℕ) × (i < j) × (at order i ≡ up t (at order j)) × (j < at end (up t (at order j)))) → ⊥
-        parent d (inl x) = root-none (rw x at d)
-        parent d (inr (i, b, x, y)) = e (rw x at (h .all i b (rw (← x) at d)))
+        parent : Meets t marks r g (up t (at order j)) → (up t (at order j) ≡ 0) ⊎ ((i : ℕ) × (i < j) × (at order i ≡ up t (at order j)) × (j < at end (up t (at order j)))) → at reach (up t (at order j)) ≡ 1
+        parent d (inl x) = absurd (root-none (rw x at d))
+        parent d (inr (i, b, x, y)) = rw x at (h .all i b (rw (← x) at d))
 
         go : Meets t marks r g (at order j) → at reach (at order j) ≡ 1
         go (here x) = rw x (h .own)
-        go (above x y f d) = absurd (parent d (o .each j l .2))
+        go (above x y f d) = absurd (q (parent d (o .each j l .2), f))
 
-    -- it has a mark
-    pub reaching-marked : has marks (slot (at order j) r) ≡ true → Reaching t order end marks v g r reach far (j + 1)
-    reaching-marked e = reaching-past go
-      where
-        go : Meets t marks r g (at order j) → at reach (at order j) ≡ 1
-        go (here x) = rw x (h .own)
-        go (above x y f d) = absurd (false≢true (sym f ∙ e))
-
-    -- it has none, and its parent meets g
+    -- it has no mark, and its parent meets g
     pub reaching-met : at reach (up t (at order j)) ≡ 1 → has marks (slot (at order j) r) ≡ false → Meets t marks r g (at order j)
     reaching-met e f = by-cases (ℕ-discrete (at order j) g) (λ x. here x) (λ x. above x (o .each j l .0) f (h .met _ e))
 

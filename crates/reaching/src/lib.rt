@@ -1,17 +1,46 @@
 // Is a node's own row read by one version alone? The nodes are passed in an order in which each comes after its parent, so that one pass tells who reads it.
-ghost use mathlib.Core.Bool.{true};
+ghost use mathlib.Core.Bool.{true, false};
+ghost use mathlib.Core.Logic.{_≢_, _⊎_};
 ghost use mathlib.Core.Path.{_≡_};
 ghost use Prim.Native.Nat.{_≤_, _<_};
 ghost use Rattle.basics.specs.Decide.{Decides};
 ghost use Rattle.trees.specs.Trees.{treeOf};
-ghost use Rattle.table.specs.Rules.{Seeking, Nodes};
+ghost use Rattle.bits.specs.Bits.{has};
+ghost use Rattle.table.specs.Rules.{slot, MarkedRow, Seeking, Nodes};
 ghost use Rattle.asking.specs.Asking.{Asking, OthersMeet, MeetsAlone, Childless};
 ghost use Rattle.ordering.specs.Ordered.{Ordered};
 use measures::Row;
 
+// Is a node in this state a living version's, and not the one at node v?
+fn another(s: u8, n: usize, v: usize) -> bool
+    ensures { λ b. ⌜ Decides b ((s ≡ 1) × (n ≢ v)) ⌝ }
+{
+    if s != 1 {
+        return false;
+    }
+    if n == v {
+        return false;
+    }
+    true
+}
+
+// Does a node meet what its parent meets? So it does if it has no mark at row r; `above` is 1 if the parent meets it.
+fn meets_too(above: u8, marks: &[u8], c: usize, r: Row) -> bool
+    requires { ⌜ MarkedRow (now marks) (r .0) × (c < 128) ⌝ }
+    ensures { λ b. ⌜ Decides b ((above ≡ 1) × (has (now (marks .entry)) (slot c (r .0)) ≡ false)) ⌝ }
+{
+    if above != 1 {
+        return false;
+    }
+    if bits::has(marks, table::slot(c, r)) {
+        return false;
+    }
+    true
+}
+
 // The greater of two numbers.
 fn later(a: usize, b: usize) -> usize
-    ensures { λ m. ⌜ (a ≤ m) × (b ≤ m) ⌝ }
+    ensures { λ m. ⌜ (a ≤ m) × (b ≤ m) × ((m ≡ a) ⊎ (m ≡ b)) ⌝ }
 {
     if a < b {
         return b;
@@ -35,10 +64,8 @@ pub fn others_reach<'a>(
     requires { ⌜ Seeking (treeOf (now state) (now tag) (now parent)) (now marks) g (r .0) × Ordered (treeOf (now state) (now tag) (now parent)) (now order) (now end) × (g < 128) ⌝ }
     ensures { λ b. ⌜ Decides b (OthersMeet (treeOf (now (state .entry)) (now (tag .entry)) (now (parent .entry))) (now (marks .entry)) v g (r .0)) ⌝ }
 {
-    if state[g] == 1 {
-        if g != v {
-            return true;
-        }
+    if another(state[g], g, v) {
+        return true;
     }
     let mut reach = [0u8; 128];
     reach[g] = 1;
@@ -50,16 +77,12 @@ pub fn others_reach<'a>(
         }
         let c = widen::byte(order[j]);
         let p = widen::byte(parent[c]);
-        if reach[p] == 1 {
-            if !bits::has(marks, table::slot(c, r)) {
-                if state[c] == 1 {
-                    if c != v {
-                        return true;
-                    }
-                }
-                reach[c] = 1;
-                far = later(far, widen::byte(end[c]));
+        if meets_too(reach[p], marks, c, r) {
+            if another(state[c], c, v) {
+                return true;
             }
+            reach[c] = 1;
+            far = later(far, widen::byte(end[c]));
         }
         j += 1;
     }

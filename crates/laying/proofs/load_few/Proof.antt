@@ -5,7 +5,6 @@ use mathlib.Core.Path.{_≡_, _∙_}
 use native.Mathlib.Omega.{arith}
 use lib.ListN.{length}
 use Rattle.basics.specs.Decide.{at, passed}
-use Rattle.scanning.specs.Zero.{zero-part}
 use Rattle.laying.specs.Laws.{Loading, load-start, load-past, load-all, zeros-at}
 use Rattle.laying.proofs.load_few.Statement.{statement}
 use Rattle.laying.proofs.load_few.Tie as tie
@@ -31,23 +30,14 @@ mul-first c = search needs
 mul-last : tie.Need-mul-last Inv-loop μ-loop
 mul-last c = search needs
 
-sub-zero : tie.Need-sub-zero Inv-loop μ-loop
-sub-zero c = search needs
-
-part-zero-start : tie.Need-part-zero-start Inv-loop μ-loop
-part-zero-start c = search needs
-
-part-zero-end : tie.Need-part-zero-end Inv-loop μ-loop
-part-zero-end c =
+zero-part-requires : tie.Need-zero-part-requires Inv-loop μ-loop
+zero-part-requires c κs =
     let v = c .before .loop .inv in
     let b = c .before .before .few-to .ensures in
-    omega (arith, v .1 .1, c .loop-test .taken, b .most, b .step .1, c .before .before .before .before .before .pre .0)
-
-zero-requires : tie.Need-zero-requires Inv-loop μ-loop
-zero-requires c κs = search needs
+    (omega arith, omega (arith, v .1 .1, c .loop-test .taken, b .most, b .step .1, c .before .before .before .before .before .pre .0))
 
 load-stretch-requires : tie.Need-load-stretch-requires Inv-loop μ-loop
-load-stretch-requires c κs = let i = c .before .before .before .before in
+load-stretch-requires c κs = let i = c .before .before .before in
     let v = i .before .loop .inv in
     let b = i .before .before .few-to .ensures in
     (omega arith, omega (arith, v .1 .1, v .2, i .loop-test .taken, b .most, b .step .1), v .3)
@@ -57,7 +47,7 @@ loop-less c = search needs
 
 loop-again : tie.Need-loop-again Inv-loop μ-loop
 loop-again c = let e = c .before .before in
-    let i = e .before .before .before .before .before in
+    let i = e .before .before .before .before in
     let v = i .before .loop .inv in
     let b = i .before .before .few-to .ensures in (
       omega (arith, v .1 .1, i .loop-test .taken, b .step .1),
@@ -72,14 +62,14 @@ loop-less-2 c = search needs
 
 loop-again-2 : tie.Need-loop-again-2 Inv-loop μ-loop
 loop-again-2 c = let a = c .before in
-    let i = a .before .before in
+    let i = a .before in
     let n = i .before .loop .n in
     let v = i .before .loop .inv in
     let b = i .before .before .few-to .ensures in (
       omega (arith, v .1 .1, i .loop-test .taken, b .step .1),
       (v .1 .0 + 1, omega (arith, v .1 .1)),
       v .2,
-      load-past _ _ n (n + 16) (omega arith) (omega (arith, v .1 .1, v .2, i .loop-test .taken, b .most, b .step .1)) (zero-part _ (2 * n) (2 * (n + 16)) (omega (arith, v .1 .1, v .2, v .3 .size, i .loop-test .taken, b .most, b .step .1)) .0 (passed (a .zero .result) (a .zero .ensures) (c .if1 .left))) (v .4) (v .3),
+      load-past _ _ n (n + 16) (omega arith) (omega (arith, v .1 .1, v .2, i .loop-test .taken, b .most, b .step .1)) (passed (a .zero-part .result) (a .zero-part .ensures) (c .if1 .left)) (v .4) (v .3),
       λ k l. v .4 k (omega arith),
     )
 
@@ -103,10 +93,7 @@ load-few-spec =
     add-end
     mul-first
     mul-last
-    sub-zero
-    part-zero-start
-    part-zero-end
-    zero-requires
+    zero-part-requires
     load-stretch-requires
     loop-less
     loop-again

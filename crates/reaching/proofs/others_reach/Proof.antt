@@ -1,18 +1,17 @@
 -- `reaching::others_reach` meets its contract: node by node it is known who meets g. Assumes nothing.
 use borrow.Author.Needs.{needs}
-use borrow.Author.Tests.{not-true, not-false}
 use Prim.Native.Nat.{_<_, _-_}
 use mathlib.Core.Path.{_≡_, refl, sym, _∙_, ap}
 use mathlib.Core.Logic.{⊎-elim, inl, inr}
-use mathlib.Core.Bool.{true, false}
+use mathlib.Core.Bool.{false}
 use native.Mathlib.Omega.{arith}
 use lib.ListN.{length}
-use Rattle.basics.specs.Decide.{at}
+use Rattle.basics.specs.Decide.{Decides, at, holds, fails}
 use Rattle.bits.specs.Bits.{has}
 use Rattle.trees.specs.Trees.{treeOf}
 use Rattle.table.specs.Rules.{slot, here}
 use Rattle.ordering.specs.Ordered.{parent-low}
-use Rattle.reaching.specs.Reaching.{Reaching, reaching-first, reaching-apart, reaching-marked, reaching-met, reaching-next, reaching-none}
+use Rattle.reaching.specs.Reaching.{Reaching, reaching-first, reaching-past, reaching-met, reaching-next, reaching-none}
 use Rattle.reaching.proofs.others_reach.Statement.{statement}
 use Rattle.reaching.proofs.others_reach.Tie as tie
 
@@ -24,7 +23,7 @@ abbrev μ-loop : tie.MeasureT-loop
 
 -- the start, from inside the loop
 abbrev start : tie.In-loop Inv-loop μ-loop → tie.Start Inv-loop μ-loop
-start c = c .before .before .before .before .before .before .before .before
+start c = c .before .before .before .before .before .before .before .before .before
 
 -- the node is one of the tree, and so is its parent
 node-low : (c : tie.After-byte2 Inv-loop μ-loop) → c .byte2 .result < 128
@@ -33,21 +32,22 @@ node-low c = let i = c .before .before .before in omega (arith, c .byte2 .ensure
 parent-is : (c : tie.After-byte3 Inv-loop μ-loop) → (let i = c .before .before .before .before .before in c .byte3 .result ≡ at (start i .args .parent .now) (at (start i .args .order .now) (i .before .loop .j)))
 parent-is c = let b = c .before .before in c .byte3 .ensures ∙ ap (at (start (b .before .before .before) .args .parent .now)) (b .byte2 .ensures)
 
--- whether it has a mark
-marked-is : (c : tie.After-has Inv-loop μ-loop) → (let i = c .before .before .before .before .before .before .before .before in let a = start i .args in c .has .result ≡ has (a .marks .now) (slot (at (a .order .now) (i .before .loop .j)) (a .r .0)))
-marked-is c =
-    let b = c .before .before .before .before .before in
-    let a = start (b .before .before .before) .args in
-    c .has .ensures ∙ ap (has (a .marks .now)) (c .before .slot .ensures ∙ ap (λ n. slot n (a .r .0)) (b .byte2 .ensures))
+-- whether it meets g as its parent does
+met : (c : tie.After-meets-too Inv-loop μ-loop) → (let i = c .before .before .before .before .before .before in let a = start i .args in Decides (c .meets-too .result) ((at (i .before .loop .reach) (at (a .parent .now) (at (a .order .now) (i .before .loop .j))) ≡ 1) × (has (a .marks .now) (slot (at (a .order .now) (i .before .loop .j)) (a .r .0)) ≡ false)))
+met c = rw (parent-is (c .before), c .before .before .before .byte2 .ensures) at (c .meets-too .ensures)
 
-element-copy-out-if1 : tie.Need-element-copy-out-if1 Inv-loop μ-loop
-element-copy-out-if1 c = search needs
+element-copy-out-another : tie.Need-element-copy-out-another Inv-loop μ-loop
+element-copy-out-another c = search needs
+
+another-requires : tie.Need-another-requires Inv-loop μ-loop
+another-requires c κs = search needs
 
 returns : tie.Need-returns Inv-loop μ-loop
 returns c =
-    let t = c .before in
-    let p = t .before .before .before .before .pre in
-    (_, ((p .2, t .if1 .taken), c .if2 .taken, here refl))
+    let a = c .before in
+    let p = a .before .before .before .before .pre in
+    let h = holds (a .another .result) (a .another .ensures) (c .if1 .taken) in
+    (_, ((p .2, h .0), h .1, here refl))
 
 array-write-reach : tie.Need-array-write-reach Inv-loop μ-loop
 array-write-reach c = search needs
@@ -60,15 +60,16 @@ byte-requires c κs = search needs
 
 loop-holds : tie.Need-loop-holds Inv-loop μ-loop
 loop-holds c =
-    let i = c .before .before in
-    let p = i .before .before .before .before .pre in
-    rw (c .byte .ensures) (reaching-first _ _ _ _ _ _ _ (p .0 .below) (p .2) (λ a x. ⊎-elim (λ w. x (w .1 .left)) (λ w. w .left (a .1)) (i .if1 .came)))
+    let e = c .before .before in
+    let a = e .before in
+    let p = a .before .before .before .before .pre in
+    rw (c .byte .ensures) (reaching-first _ _ _ _ _ _ _ (p .0 .below) (p .2) (λ l x. fails (a .another .result) (a .another .ensures) (e .if1 .left) (l .1, x)))
 
 returns-2 : tie.Need-returns-2 Inv-loop μ-loop
 returns-2 c = λ h.
     let i = c .before in
     let p = start i .pre in
-    reaching-none _ _ _ _ _ _ _ (p .0 .below) (p .0 .linked) (p .1) _ _ _ (i .before .loop .inv) (inl (c .if3 .taken)) h
+    reaching-none _ _ _ _ _ _ _ (p .0 .below) (p .0 .linked) (p .1) _ _ _ (i .before .loop .inv) (inl (c .if2 .taken)) h
 
 shared-slice-read-byte : tie.Need-shared-slice-read-byte Inv-loop μ-loop
 shared-slice-read-byte c = search needs
@@ -82,40 +83,38 @@ element-copy-out-byte-2 c = node-low c
 byte-requires-3 : tie.Need-byte-requires-3 Inv-loop μ-loop
 byte-requires-3 c κs = search needs
 
-array-read-if4 : tie.Need-array-read-if4 Inv-loop μ-loop
-array-read-if4 c =
+array-read-meets-too : tie.Need-array-read-meets-too Inv-loop μ-loop
+array-read-meets-too c =
     let i = c .before .before .before .before .before in
     omega (arith, parent-is c, parent-low _ _ _ (start i .pre .1) (i .before .loop .j) (i .loop-test .taken))
 
-slot-requires : tie.Need-slot-requires Inv-loop μ-loop
-slot-requires c κs =
-    let b = c .before .before .before in
-    (node-low b, start (b .before .before .before) .pre .0 .row .row)
+meets-too-requires : tie.Need-meets-too-requires Inv-loop μ-loop
+meets-too-requires c κs =
+    let b = c .before .before in
+    (start (b .before .before .before) .pre .0 .row, node-low b)
 
-has-requires : tie.Need-has-requires Inv-loop μ-loop
-has-requires c κs =
-    let b = c .before .before .before .before in
-    let w = start (b .before .before .before) .pre .0 .row in
-    omega (arith, c .slot .ensures, node-low b, w .row, w .room)
+element-copy-out-another-2 : tie.Need-element-copy-out-another-2 Inv-loop μ-loop
+element-copy-out-another-2 c = node-low (c .before .before .before .before)
 
-element-copy-out-if6 : tie.Need-element-copy-out-if6 Inv-loop μ-loop
-element-copy-out-if6 c = node-low (c .before .before .before .before .before .before)
+another-requires-2 : tie.Need-another-requires-2 Inv-loop μ-loop
+another-requires-2 c κs = search needs
 
 returns-3 : tie.Need-returns-3 Inv-loop μ-loop
 returns-3 c =
-    let f = c .before in
-    let h = f .before .before .before in
-    let x = h .before .before in
-    let b = x .before .before .before in
+    let a = c .before in
+    let x = a .before .before in
+    let b = x .before .before .before .before in
     let i = b .before .before .before in
     let s = start i in
-    (_, ((node-low b, f .if6 .taken), c .if7 .taken, rw (b .byte2 .ensures) (reaching-met _ _ _ _ _ _ _ (s .pre .0 .below) (s .pre .1) _ _ _ (i .loop-test .taken) (i .before .loop .inv) (rw (parent-is (x .before)) at (x .if4 .taken)) (sym (marked-is h) ∙ not-true _ (f .before .before .if5 .taken)))))
+    let h = holds (a .another2 .result) (a .another2 .ensures) (c .if4 .taken) in
+    let m = holds (x .before .meets-too .result) (met (x .before)) (x .if3 .taken) in
+    (_, ((node-low b, h .0), h .1, rw (b .byte2 .ensures) (reaching-met _ _ _ _ _ _ _ (s .pre .0 .below) (s .pre .1) _ _ _ (i .loop-test .taken) (i .before .loop .inv) (m .0) (m .1))))
 
 array-write-reach-2 : tie.Need-array-write-reach-2 Inv-loop μ-loop
-array-write-reach-2 c = node-low (c .before .before .before .before .before .before .before .before)
+array-write-reach-2 c = node-low (c .before .before .before .before .before .before .before)
 
 element-copy-out-byte-3 : tie.Need-element-copy-out-byte-3 Inv-loop μ-loop
-element-copy-out-byte-3 c = node-low (c .before .before .before .before .before .before .before .before)
+element-copy-out-byte-3 c = node-low (c .before .before .before .before .before .before .before)
 
 byte-requires-4 : tie.Need-byte-requires-4 Inv-loop μ-loop
 byte-requires-4 c κs = search needs
@@ -132,26 +131,24 @@ loop-less c = search needs
 loop-again : tie.Need-loop-again Inv-loop μ-loop
 loop-again c =
     let y = c .before in
-    let b = y .before .before in
+    let b = y .before .before .before in
     let i = b .before .before .before in
     let s = start i in
     let p = s .pre in
     let v = i .before .loop .inv in
     ⊎-elim
-    (λ w. rw (w .9, w .10, b .byte2 .ensures) (reaching-next _ _ _ _ _ _ _ (p .0 .below) (p .1) _ _ _ (i .loop-test .taken) v (rw (parent-is y) at (w .0 .taken))
-    (sym (marked-is record { before = record { before = record { before = y; if4 = w .0 }; slot = w .1 }; has = w .2 }) ∙ not-true _ (w .3 .taken))
-    (λ a x. ⊎-elim (λ q. x (sym (b .byte2 .ensures) ∙ q .1 .left)) (λ q. q .left (ap (at (s .args .state .now)) (b .byte2 .ensures) ∙ a .1)) (w .5 .came))
-    _ (w .8 .ensures .0) (rw (w .7 .ensures, b .byte2 .ensures) at (w .8 .ensures .1))))
-    (⊎-elim
-    (λ w. rw (w .4, w .5) (reaching-marked _ _ _ _ _ _ _ (p .0 .below) (p .1) _ _ _ (i .loop-test .taken) v
-    (sym (marked-is record { before = record { before = record { before = y; if4 = w .0 }; slot = w .1 }; has = w .2 }) ∙ not-false _ (w .3 .left))))
-    (λ w. rw (w .1, w .2) (reaching-apart _ _ _ _ _ _ _ (p .0 .below) (p .1) _ _ _ (i .loop-test .taken) v (rw (parent-is y) at (w .0 .left)))))
-    (c .if4 .came)
+    (λ w.
+    let m = holds (y .meets-too .result) (met y) (w .0 .taken) in
+    rw (w .7, w .8, b .byte2 .ensures) (reaching-next _ _ _ _ _ _ _ (p .0 .below) (p .1) _ _ _ (i .loop-test .taken) v (m .0) (m .1)
+    (λ a x. fails (w .2 .result) (w .2 .ensures) (w .3 .left) (ap (at (s .args .state .now)) (b .byte2 .ensures) ∙ a .1, λ q. x (sym (b .byte2 .ensures) ∙ q)))
+    _ (w .6 .ensures .0) (rw (w .5 .ensures, b .byte2 .ensures) at (w .6 .ensures .1))))
+    (λ w. rw (w .1, w .2) (reaching-past _ _ _ _ _ _ _ (p .0 .below) (p .1) _ _ _ (i .loop-test .taken) v (fails (y .meets-too .result) (met y) (w .0 .left))))
+    (c .if3 .came)
 
 returns-4 : tie.Need-returns-4 Inv-loop μ-loop
 returns-4 c = λ h.
     let l = c .before in
-    let p = l .before .before .before .before .before .before .before .pre in
+    let p = l .before .before .before .before .before .before .before .before .pre in
     reaching-none _ _ _ _ _ _ _ (p .0 .below) (p .0 .linked) (p .1) _ _ _ (l .loop .inv) (inr (c .loop-test .left)) h
 
 pub others-reach-spec : {M : Type 1} → statement M
@@ -160,7 +157,8 @@ others-reach-spec =
     (tie.spec
     Inv-loop
     μ-loop
-    element-copy-out-if1
+    element-copy-out-another
+    another-requires
     returns
     array-write-reach
     element-copy-out-byte
@@ -171,10 +169,10 @@ others-reach-spec =
     byte-requires-2
     element-copy-out-byte-2
     byte-requires-3
-    array-read-if4
-    slot-requires
-    has-requires
-    element-copy-out-if6
+    array-read-meets-too
+    meets-too-requires
+    element-copy-out-another-2
+    another-requires-2
     returns-3
     array-write-reach-2
     element-copy-out-byte-3

@@ -102,40 +102,32 @@ fn deep(beside: Beside, low: Low, in_turn: bool) -> Lent {
     })
 }
 
-/// A store and the version of it that is deleted, for the name of a line.
+/// A line's name, its store, and the version that is deleted there.
 pub type Doomed = (&'static str, Lent, u16);
 
-/// Deletes for which much has to be asked: whether another version reads what the first one has.
+/// Deletes for which much has to be asked. The first of a chain, or of one with a ghost below it, has
+/// every row, and so have the next living ones: it alone reads its rows. Of the leaves on ghosts below
+/// ghosts one reads the first ghost's rows, like many others, and one has every row.
 pub fn deletes() -> Vec<Doomed> {
     let chain = (1..=64).map(|node| (node, ALIVE, node - 1));
     let gap = [(1, ALIVE, 0), (2, GHOST, 1), (3, ALIVE, 2), (4, ALIVE, 2)];
     let below = (5..=64).map(|node| (node, ALIVE, node - 1));
+    let ghosts = |beside| deep(beside, Low::Ghosts, false);
+    let built = |nodes: Vec<_>, owners| built("deletes", nodes.into_iter(), move |_| owners);
     vec![
         (
-            "delete chain's first",
-            built("chain", chain, |_| [1, 2, 3]),
+            "delete a chain's first",
+            built(chain.collect(), [1, 2, 3]),
             1,
         ),
         (
             "delete above a ghost",
-            built("gap", gap.into_iter().chain(below), |_| [1, 3, 4]),
+            built(gap.into_iter().chain(below).collect(), [1, 3, 4]),
             1,
         ),
-        (
-            "delete deepest pair's",
-            deep(Beside::Pair, Low::Ghosts, false),
-            125,
-        ),
-        (
-            "delete deepest leaf",
-            deep(Beside::Leaf, Low::Ghosts, false),
-            125,
-        ),
-        (
-            "delete leaf with rows",
-            deep(Beside::Leaf, Low::Ghosts, false),
-            126,
-        ),
+        ("delete of the last pair", ghosts(Beside::Pair), 125),
+        ("delete the last leaf", ghosts(Beside::Leaf), 125),
+        ("delete one with rows", ghosts(Beside::Leaf), 126),
     ]
 }
 

@@ -29,10 +29,15 @@ fn print_store(lent: &Lent) {
     println!("{snapshots} snapshots, {ghosts} ghosts, {used} of {entries} entries in use");
 }
 
-/// A store, then the time of some calls on it. The ratio is that of two stores, and the passes are
-/// the first one's: its time by that of one pass over the records.
+/// A store, then the time of some calls on it.
 fn print_calls<T: AsRef<str>>(lent: &Lent, calls: &[T], timed: impl Fn(&Timed) -> Vec<Repetition>) {
     print_store(lent);
+    print_times(lent, calls, timed);
+}
+
+/// The time of some calls. The ratio is that of two stores, and the passes are the first one's: its
+/// time by that of one pass over the records.
+fn print_times<T: AsRef<str>>(lent: &Lent, calls: &[T], timed: impl Fn(&Timed) -> Vec<Repetition>) {
     let stores = stores();
     print!("{:<24}", "ns per call");
     stores.iter().for_each(|store| print!("{:>12}", store.name));
@@ -83,11 +88,12 @@ fn print_deep_ghosts() {
     );
 }
 
-/// A delete at each of some stores of the same measures.
+/// A delete at each of some stores of the largest measures.
 fn print_deletes() {
     let all = hard::deletes();
     let lines: Vec<&str> = all.iter().map(|(line, ..)| *line).collect();
-    print_calls(&all[0].1, &lines, |store| {
+    println!("\ndeletes for which much is asked, each at a store of its own");
+    print_times(&all[0].1, &lines, |store| {
         all.iter().map(store.doomed).collect()
     });
 }
