@@ -5,11 +5,13 @@ use mathlib.Core.Logic.{_≢_, _↔_, by-cases}
 use mathlib.Core.Bool.{Bool, true, false, not, false≢true}
 use mathlib.Core.List.{List}
 use mathlib.Core.Option.{Option, none, some}
-use Prim.Native.Nat.{ℕ, zero, suc, _+_, _≤_, _<_}
-use native.Mathlib.Decide.{ℕ-discrete}
+use Prim.Native.Nat.{ℕ, zero, suc, _+_, _-_, _≤_, _<_}
+use native.Mathlib.Decide.{ℕ-discrete, decLt}
 use native.Mathlib.Omega.{arith}
 use lib.Dec.{eqb}
-use lib.ListN.{length}
+use lib.ListN.{length, take, drop, length-take, length-drop}
+use lib.Seq.{getD-take, getD-drop}
+use borrow.Author.Count.{below-more}
 use borrow.Author.Tests.{eq-eqb, ne-eqb, eqb-true, eqb-false}
 use Rattle.basics.specs.Decide.{Decides, at, and-yes, both, not-yes, not-of}
 use Rattle.basics.specs.Count.{sum, one, count, first}
@@ -38,6 +40,26 @@ pub none-free : (node : List ℕ) → ((i : ℕ) → i < length node → at node
 unfolding freeEntry
 none-free node h = first-nothing (λ i. eqb (at node i) 0) (length node) (λ i l. ne-eqb _ 0 (h i l))
 
+-- none of the first n entries is free
+abbrev pub Full : List ℕ → ℕ → Type 0
+Full node n = (k : ℕ) → k < n → at node k ≢ 0
+
+-- the least of the first i numbers tells whether one is 0
+pub record Least (xs : List ℕ) (i least : ℕ) : Type 0 where
+  pub none : least ≢ 0 → Full xs i
+  pub some : least ≡ 0 → Full xs i → ⊥
+
+module _ (xs : List ℕ) where
+  pub least-first : {least : ℕ} → least ≢ 0 → Least xs 0 least
+  least-first z = record { none = λ e k l. absurd (omega arith); some = λ e. absurd (z e) }
+
+  -- number i is no less, or it is
+  pub least-kept : {i least : ℕ} → least ≤ at xs i → Least xs i least → Least xs (i + 1) least
+  least-kept l g = record { none = λ e. below-more _ _ (g .none e) (λ z. e (omega arith)); some = λ e h. g .some e (λ k m. h k (omega arith)) }
+
+  pub least-less : {i least : ℕ} → at xs i < least → Least xs i least → Least xs (i + 1) (at xs i)
+  least-less {i} l g = record { none = λ e. below-more _ _ (g .none (λ z. omega (arith, l, z))) e; some = λ e h. h i (omega arith) e }
+
 -- the search has come to i, and no entry below it is free
 pub record Passed (node : List ℕ) (i : ℕ) : Type 0 where
   pub most : i ≤ length node
@@ -54,6 +76,15 @@ module _ (node : List ℕ) where
 
   pub pass-next : (i : ℕ) → i < length node → Passed node i → at node i ≢ 0 → Passed node (i + 1)
   pass-next i l h e = record { most = omega arith; full = first-no (λ k. eqb (at node k) 0) i (h .full) (ne-eqb _ 0 e) }
+
+  -- past a stretch without a free entry
+  pub pass-full : (i j : ℕ) → i ≤ j → j ≤ length node → (let part = take (j - i) (drop i node) in Full part (length part)) → Passed node i → Passed node j
+  pass-full i j l m f h = record { most = m; full = first-nothing (λ k. eqb (at node k) 0) j (λ k b. by-cases (decLt k i) (λ c. first-none (λ k. eqb (at node k) 0) i (h .full) k c) (λ c. ne-eqb _ 0 (past k (omega arith) b))) }
+    where
+      past : (k : ℕ) → i ≤ k → k < j → at node k ≢ 0
+      past k a b e =
+          let d : i + (k - i) ≡ k = omega arith in
+          f (k - i) (simp (length-take, length-drop) (omega arith)) (getD-take (j - i) (drop i node) (k - i) 0 (omega arith) ∙ getD-drop i node (k - i) 0 ∙ ap (at node) d ∙ e)
 
   pub pass-all : (i : ℕ) → length node ≤ i → Passed node i → freeEntry node ≡ none
   unfolding freeEntry

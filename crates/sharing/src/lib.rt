@@ -1,11 +1,13 @@
 // Where a row is read and by how many, and is there a free place?
 ghost use mathlib.Core.Path.{_≡_};
 ghost use Prim.Native.Nat.{_≤_};
+ghost use lib.ListN.{length};
+ghost use Rattle.basics.specs.Decide.{Decides};
 ghost use Rattle.trees.specs.Trees.{treeOf, tableOf};
 ghost use Rattle.tree.specs.Rules.{foundOf, Parents};
 ghost use Rattle.reading.specs.Lookup.{Looking};
 ghost use Rattle.sharing.specs.Sharing.{ReadersOf, Finds, freeEntry};
-ghost use Rattle.sharing.specs.Laws.{Counted};
+ghost use Rattle.sharing.specs.Laws.{Counted, Full, Passed};
 use measures::Place;
 use measures::Row;
 use tree::Found;
@@ -89,11 +91,44 @@ pub fn lookup<'a>(
     Looked { place, sharers }
 }
 
-// The first entry that is free.
+// Is no entry free? The least of their nodes is found, and none is left early: so the compiler takes many at once.
+fn full(node: &[u8]) -> bool
+    ensures { λ b. ⌜ Decides b (Full (now (node .entry)) (length (now (node .entry)))) ⌝ }
+{
+    let mut least: u8 = 255;
+    let mut i: usize = 0;
+    while i < node.len() {
+        if node[i] < least {
+            least = node[i];
+        }
+        i += 1;
+    }
+    if least == 0 {
+        return false;
+    }
+    true
+}
+
+// Up to where no entry is free, in stretches of 64.
+fn full_to(node: &[u8]) -> usize
+    ensures { λ i. ⌜ Passed (now (node .entry)) i ⌝ }
+{
+    let mut from: usize = 0;
+    while node.len() - from >= 64 {
+        let to = from + 64;
+        if !full(&node[from..to]) {
+            return from;
+        }
+        from = to;
+    }
+    from
+}
+
+// The first entry that is free. Stretches without one are passed as a whole.
 pub fn free_entry(node: &[u8]) -> Found
     ensures { λ x. ⌜ x ≡ foundOf (freeEntry (now (node .entry))) ⌝ }
 {
-    let mut i: usize = 0;
+    let mut i = full_to(node);
     while i < node.len() {
         if node[i] == 0 {
             return Found::At(i);

@@ -2,7 +2,7 @@
 use borrow.Author.Needs.{needs}
 use lib.ListN.{length}
 use Prim.Native.Nat.{_-_}
-use Rattle.sharing.specs.Laws.{Passed, pass-start, pass-free, pass-next, pass-all}
+use Rattle.sharing.specs.Laws.{Passed, pass-free, pass-next, pass-all}
 use Rattle.sharing.proofs.free_entry.Statement.{statement}
 use Rattle.sharing.proofs.free_entry.Tie as tie
 
@@ -12,8 +12,11 @@ Inv-loop node i₀ i = Passed node i
 abbrev μ-loop : tie.MeasureT-loop
 μ-loop node i₀ i = length node - i
 
+full-to-requires : tie.Need-full-to-requires Inv-loop μ-loop
+full-to-requires c κs = search needs
+
 loop-holds : tie.Need-loop-holds Inv-loop μ-loop
-loop-holds c = pass-start _
+loop-holds c = c .full-to .ensures
 
 shared-slice-read-if1 : tie.Need-shared-slice-read-if1 Inv-loop μ-loop
 shared-slice-read-if1 c = search needs
@@ -43,6 +46,7 @@ free-entry-spec =
     (tie.spec
     Inv-loop
     μ-loop
+    full-to-requires
     loop-holds
     shared-slice-read-if1
     returns
