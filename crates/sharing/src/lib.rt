@@ -109,7 +109,7 @@ fn full(node: &[u8]) -> bool
     true
 }
 
-// Up to where no entry is free, in stretches of 64.
+// Up to where no entry is free, in stretches of 64. How far that is is left free, since the rest is gone through one by one.
 fn full_to(node: &[u8]) -> usize
     ensures { λ i. ⌜ Passed (now (node .entry)) i ⌝ }
 {
