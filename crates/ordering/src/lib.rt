@@ -52,7 +52,7 @@ pub fn lined_up<'a>(first: &'a [u8; 128], after: &'a [u8; 128]) -> Queue
     Queue { node, end, count }
 }
 
-// Does each node of a list come after its parent, and before the end of its parent's children? They are noted.
+// Does each node of a list come after its parent, and before the end of its parent's children? They are noted; if one does not, what is noted is left free.
 fn parents_first<'a>(
     parent: &'a [u8; 128],
     order: &'a [u8],
