@@ -1,6 +1,7 @@
 //! The host's side of the row store: its safe face, the records' layout, a plain opponent, a store
-//! of full copies, and a judge of records.
+//! of full copies, a judge of records, and rows in cable order.
 
+pub mod cable;
 pub mod copies;
 pub mod dice;
 pub mod judge;

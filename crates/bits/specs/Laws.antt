@@ -14,7 +14,7 @@ use Rattle.basics.specs.Decide.{at, both}
 use Rattle.bits.specs.Bits.{bit, has, joined}
 
 -- a test of every number below n
-abbrev all : ℕ → (ℕ → Bool) → Bool
+abbrev pub all : ℕ → (ℕ → Bool) → Bool
 all zero p = true
 all (suc n) p = p n && all n p
 
@@ -25,7 +25,7 @@ good x s t = eqb (bit x s) 1 || (ltb (x + 2 ^ s) 256 && (eqb (bit (x + 2 ^ s) s)
 tested : all 256 (λ x. all 8 (λ s. all 8 (good x s))) ≡ true
 tested = refl
 
-all-at : (n : ℕ) (p : ℕ → Bool) (k : ℕ) → all n p ≡ true → k < n → p k ≡ true
+pub all-at : (n : ℕ) (p : ℕ → Bool) (k : ℕ) → all n p ≡ true → k < n → p k ≡ true
 all-at zero p k h l = absurd (omega arith)
 all-at (suc n) p k h l =
     let (a, b) = both (p n) (all n p) h in
@@ -40,10 +40,10 @@ module _ (x s : ℕ) (l : x < 256) (m : s < 8) (h : eqb (bit x s) 1 ≡ false) w
   pub byte-fits : x + 2 ^ s < 256
   byte-fits = ltb-true _ _ (both (ltb (x + 2 ^ s) 256) _ (rest s m) .0)
 
-  byte-same : eqb (bit (x + 2 ^ s) s) 1 ≡ true
+  pub byte-same : eqb (bit (x + 2 ^ s) s) 1 ≡ true
   byte-same = both (eqb (bit (x + 2 ^ s) s) 1) _ (both (ltb (x + 2 ^ s) 256) _ (rest s m) .1) .0
 
-  byte-other : (t : ℕ) → t < 8 → t ≢ s → bit (x + 2 ^ s) t ≡ bit x t
+  pub byte-other : (t : ℕ) → t < 8 → t ≢ s → bit (x + 2 ^ s) t ≡ bit x t
   byte-other t k e =
       let o = both (eqb (bit (x + 2 ^ s) s) 1) _ (both (ltb (x + 2 ^ s) 256) _ (rest t k) .1) .1 in
       eqb-true _ _ (rw (ne-eqb s t (λ q. e (sym q))) at o)

@@ -1,4 +1,4 @@
-// The C interface: the calls on numbers and slices, the records being bytes. Each is made by a crate of its own.
+// The C interface: the calls on numbers and slices, the records being bytes, and rows turned to cable order and back. Each is made by a crate of its own.
 ghost use Rattle.host_count.specs.Counts.{HostCounts};
 ghost use Rattle.host_snapshot.specs.Snapshots.{HostSnapshots};
 ghost use Rattle.host_delete.specs.Deletes.{HostDeletes};
@@ -6,6 +6,7 @@ ghost use Rattle.host_write.specs.Writes.{HostWrites};
 ghost use Rattle.host_border.specs.Borders.{HostBorders};
 ghost use Rattle.host_read.specs.Reads.{HostReads};
 ghost use Rattle.host_open.specs.Opens.{HostOpens, sizeOf};
+ghost use Rattle.cables.specs.Cables.{toCable, fromCable, Turns};
 use measures::Row;
 use measures::Size;
 
@@ -94,4 +95,20 @@ pub extern "C" fn rowstore_open(
         places: count,
     };
     host_open::open(records, places, size)
+}
+
+// A row of 1,024 hooks is turned to cable order, into `out`. Refusal: 2.
+#[no_mangle]
+pub extern "C" fn rowstore_to_cable(row: &[u8], out: &mut [u8]) -> u8
+    ensures { λ answer. ⌜ Turns toCable (now (row .entry)) (now (out .entry)) answer (now (out .exit)) ⌝ }
+{
+    gathering::to_cable(row, out)
+}
+
+// A row in cable order is turned back, into `out`. Refusal: 2.
+#[no_mangle]
+pub extern "C" fn rowstore_from_cable(row: &[u8], out: &mut [u8]) -> u8
+    ensures { λ answer. ⌜ Turns fromCable (now (row .entry)) (now (out .entry)) answer (now (out .exit)) ⌝ }
+{
+    spreading::from_cable(row, out)
 }

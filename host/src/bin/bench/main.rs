@@ -2,6 +2,7 @@
 
 #[cfg(lmdb)]
 mod beside;
+mod cable;
 mod calls;
 mod hard;
 #[cfg(lmdb)]
@@ -173,5 +174,6 @@ fn main() {
     print_deep_ghosts();
     print_deletes();
     print_growth();
+    cable::print();
     print_lmdb();
 }

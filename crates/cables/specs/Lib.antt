@@ -1,0 +1,3 @@
+pub mod Cables
+pub mod Laws
+pub mod Back
