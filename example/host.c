@@ -1,5 +1,5 @@
-/* A store of four rows in six places, all of its memory lent by this program.
- */
+/* A store of four rows in six places, all of its memory lent by this program;
+ * then a row for the head of 1,024 hooks, turned to cable order and back. */
 #include "rowstore.h"
 
 #include <stdio.h>
@@ -8,6 +8,7 @@
 
 enum { ROWS = 4, WIDTH = 8, PLACES = 6 };
 enum { ROW = 2, TAG = 7, BORDER = 3 };
+enum { FILES = 16, HOOKS = 64 };
 
 static uint8_t records[ROWSTORE_RECORDS_SIZE(ROWS, PLACES)];
 static uint8_t places[ROWSTORE_PLACES_SIZE(WIDTH, PLACES)];
@@ -128,6 +129,48 @@ static void refused_write(void) {
   }
 }
 
+/* The bits of a row, from the highest of byte 0 on. */
+static void print_bits(const char *name, const uint8_t *row) {
+  printf("%s:\n", name);
+  for (size_t n = 0; n < FILES * HOOKS; n++) {
+    putchar(row[n / 8] >> (7 - n % 8) & 1 ? '#' : '.');
+    if (n % HOOKS == HOOKS - 1) {
+      putchar('\n');
+    }
+  }
+}
+
+/* Four hooks of each file, further on from file to file. */
+static void turn_row(void) {
+  uint8_t row[ROWSTORE_CABLE_SIZE] = {0};
+  uint8_t cable[ROWSTORE_CABLE_SIZE];
+  uint8_t back[ROWSTORE_CABLE_SIZE];
+  for (size_t file = 0; file < FILES; file++) {
+    row[file * HOOKS / 8 + file / 2] = file % 2 == 0 ? 0xf0 : 0x0f;
+  }
+  expect("to cable", rowstore_to_cable(row, sizeof row, cable, sizeof cable),
+         ROWSTORE_OK);
+  print_bits("row, a file of 64 hooks to a line", row);
+  print_bits("the same in cable order, 64 positions to a line", cable);
+  expect("from cable",
+         rowstore_from_cable(cable, sizeof cable, back, sizeof back),
+         ROWSTORE_OK);
+  if (memcmp(back, row, sizeof back) != 0) {
+    fprintf(stderr, "from cable: another row came back\n");
+    exit(EXIT_FAILURE);
+  }
+  memset(cable, 0xc3, sizeof cable);
+  memcpy(back, cable, sizeof back);
+  uint8_t answer = rowstore_to_cable(row, sizeof row - 1, cable, sizeof cable);
+  expect("to cable, of a row that is cut", answer, ROWSTORE_BAD_LENGTH);
+  printf("to cable: a row of %zu bytes, refused with %u\n", sizeof row - 1,
+         (unsigned)answer);
+  if (memcmp(cable, back, sizeof cable) != 0) {
+    fprintf(stderr, "to cable: refused, but the output has changed\n");
+    exit(EXIT_FAILURE);
+  }
+}
+
 int main(void) {
   expect("open",
          rowstore_open(records, sizeof records, places, sizeof places, ROWS,
@@ -174,5 +217,7 @@ int main(void) {
   read_row(ROWSTORE_ORIGIN, ROW, 0xb2, 1);
   read_row(ROWSTORE_ORIGIN, 3, 0xd3, 1);
   count(4, 0);
+
+  turn_row();
   return EXIT_SUCCESS;
 }

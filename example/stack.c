@@ -17,10 +17,22 @@ enum { UNKNOWN = 99 };
 /* From docs/LAYOUT.md: where the nodes' states start, and a ghost's state. */
 enum { STATES = 6, NODES = 128, GHOST = 2 };
 
-enum call { OPEN, SNAPSHOT, READ, WRITE, BORDER, DELETE, COUNT, FILL_KNOWN };
+enum call {
+  OPEN,
+  SNAPSHOT,
+  READ,
+  WRITE,
+  BORDER,
+  DELETE,
+  COUNT,
+  TO_CABLE,
+  FROM_CABLE,
+  FILL_KNOWN
+};
 
-static const char *const names[] = {"open",   "snapshot", "read", "write",
-                                    "border", "delete",   "count"};
+static const char *const names[FILL_KNOWN] = {
+    "open",   "snapshot", "read",     "write",     "border",
+    "delete", "count",    "to cable", "from cable"};
 
 struct figure {
   size_t bytes;
@@ -30,7 +42,7 @@ struct figure {
 
 static uint64_t stack[STACK / 8];
 static ucontext_t host, inside;
-static struct figure figures[COUNT + 1];
+static struct figure figures[FILL_KNOWN];
 
 /* The store, and the arguments of the next call. */
 static uint8_t records[MOST_RECORDS], places[MOST_PLACES];
@@ -38,7 +50,8 @@ static uint8_t written[(ROWSTORE_MAX_BORDER + 1) * ROWSTORE_MAX_WIDTH];
 static uint8_t out[ROWSTORE_MAX_WIDTH];
 static uint16_t border[ROWSTORE_MAX_BORDER + 1];
 static size_t rows, width, count, row, used, snapshots, done, sharers;
-static size_t records_len, places_len, row_len, border_len, border_bytes;
+static size_t records_len, places_len, row_len, out_len, border_len,
+    border_bytes;
 static uint16_t tag, source;
 static enum call next;
 static uint8_t answer;
@@ -86,6 +99,12 @@ static void make_call(void) {
     break;
   case COUNT:
     answer = rowstore_count(records, records_len, &used, &snapshots);
+    break;
+  case TO_CABLE:
+    answer = rowstore_to_cable(written, row_len, out, out_len);
+    break;
+  case FROM_CABLE:
+    answer = rowstore_from_cable(written, row_len, out, out_len);
     break;
   case FILL_KNOWN:
     answer = fill_known();
@@ -403,15 +422,32 @@ static void store(size_t l, size_t b, size_t p) {
   empty(owned);
 }
 
+/* A row is turned, and refused for each of its two lengths. */
+static void turns(enum call call) {
+  memset(written, 0xff, sizeof written);
+  row_len = out_len = ROWSTORE_CABLE_SIZE;
+  made(call, ROWSTORE_OK);
+  for (size_t i = 0; i < out_len; i++) {
+    expect("byte turned", out[i], 0xff);
+  }
+  row_len--;
+  made(call, ROWSTORE_BAD_LENGTH);
+  row_len++;
+  out_len--;
+  made(call, ROWSTORE_BAD_LENGTH);
+}
+
 int main(void) {
   int status = EXIT_SUCCESS;
   size_t known = depth(FILL_KNOWN);
   expect("a known depth is missed", known < KNOWN || known > KNOWN + 1024, 0);
   store(4, 8, 76);
   store(ROWSTORE_MAX_ROWS, ROWSTORE_MAX_WIDTH, ROWSTORE_MAX_PLACES);
-  for (size_t i = OPEN; i <= COUNT; i++) {
+  turns(TO_CABLE);
+  turns(FROM_CABLE);
+  for (size_t i = OPEN; i < FILL_KNOWN; i++) {
     const struct figure *f = &figures[i];
-    printf("stack: %-8s %6zu bytes; %4u calls accepted, %2u refused\n",
+    printf("stack: %-10s %6zu bytes; %4u calls accepted, %2u refused\n",
            names[i], f->bytes, f->accepted, f->refused);
     if (f->bytes >= LIMIT) {
       fprintf(stderr, "stack: %s: less than %d are promised\n", names[i],

@@ -1,5 +1,6 @@
 /* Calls from several threads at once: all calls, each thread on a store of its
- * own, then reads and counts of one store. Every answer is checked. */
+ * own and all turning one row to cable order, then reads and counts of one
+ * store. Every answer is checked. */
 #define _POSIX_C_SOURCE 200809L
 
 #include "rowstore.h"
@@ -31,6 +32,8 @@ struct task {
 };
 
 static struct store stores[THREADS];
+static uint8_t turned[THREADS][ROWSTORE_CABLE_SIZE];
+static uint8_t hooks[ROWSTORE_CABLE_SIZE];
 static struct store common;
 static struct copies common_due;
 static pthread_barrier_t start;
@@ -185,6 +188,16 @@ static void take_down(struct store *s, struct copies *due) {
   count(s, 6, 1);
 }
 
+/* The row is every thread's, what it is turned to its own. */
+static void turn_row(uint8_t *out) {
+  uint8_t back[ROWSTORE_CABLE_SIZE];
+  expect("to cable", rowstore_to_cable(hooks, sizeof hooks, out, sizeof back),
+         ROWSTORE_OK);
+  expect("from cable", rowstore_from_cable(out, sizeof back, back, sizeof back),
+         ROWSTORE_OK);
+  expect("bytes turned that differ", memcmp(hooks, back, sizeof back) != 0, 0);
+}
+
 static void *own_store(void *argument) {
   const struct task *task = argument;
   struct store *s = &stores[task->number];
@@ -194,6 +207,7 @@ static void *own_store(void *argument) {
     build(s, &due, round * THREADS + task->number);
     read_and_count(s, &due);
     take_down(s, &due);
+    turn_row(turned[task->number]);
   }
   return NULL;
 }
@@ -225,6 +239,9 @@ static void run(const char *what, void *(*body)(void *)) {
 
 int main(void) {
   static struct store before;
+  for (size_t i = 0; i < sizeof hooks; i++) {
+    hooks[i] = (uint8_t)(37 * i);
+  }
   run("all calls, each thread on its own store", own_store);
   build(&common, &common_due, 7);
   before = common;

@@ -24,9 +24,12 @@
  * rows has changed something: the rows before it are written, and their number
  * is set.
  *
- * Every call but rowstore_open judges the records first: bytes that are not
+ * Every call on an open store judges the records first: bytes that are not
  * those of a store are refused with ROWSTORE_UNSOUND, and so are records of the
  * wrong length. docs/LAYOUT.md has their layout.
+ *
+ * Beside the store, rowstore_to_cable and rowstore_from_cable turn one row,
+ * wherever it comes from, to cable order and back.
  */
 #ifndef ROWSTORE_H
 #define ROWSTORE_H
@@ -60,6 +63,9 @@ enum {
 #define ROWSTORE_MAX_PLACES 4096
 #define ROWSTORE_MAX_SNAPSHOTS 64
 #define ROWSTORE_MAX_BORDER 64
+
+/* Bytes of a row that is turned to cable order or back. */
+#define ROWSTORE_CABLE_SIZE 128
 
 /* The tag of the origin. */
 #define ROWSTORE_ORIGIN 0
@@ -214,6 +220,33 @@ uint8_t rowstore_delete(uint8_t *records, size_t records_len, uint16_t tag);
  */
 uint8_t rowstore_count(const uint8_t *records, size_t records_len, size_t *used,
                        size_t *snapshots);
+
+/* Turns a row for the head of 1,024 hooks to cable order. A row has a bit for
+ * each hook, and hook 0 is the highest bit of byte 0; in cable order position 0
+ * stands there. The head has 16 files of 64 hooks, and the cable takes one hook
+ * of each file in turn: position n carries hook n % 16 * 64 + n / 16, so that
+ * position 1 carries hook 64 and position 16 hook 1.
+ *
+ * row  only read; ROWSTORE_CABLE_SIZE bytes
+ * out  filled; ROWSTORE_CABLE_SIZE bytes
+ *
+ * Refusals:
+ *   ROWSTORE_BAD_LENGTH  row_len or out_len is wrong
+ */
+uint8_t rowstore_to_cable(const uint8_t *row, size_t row_len, uint8_t *out,
+                          size_t out_len);
+
+/* Turns a row in cable order back: what rowstore_to_cable made of a row is that
+ * row again, and the other way round.
+ *
+ * row  only read; ROWSTORE_CABLE_SIZE bytes
+ * out  filled; ROWSTORE_CABLE_SIZE bytes
+ *
+ * Refusals:
+ *   ROWSTORE_BAD_LENGTH  row_len or out_len is wrong
+ */
+uint8_t rowstore_from_cable(const uint8_t *row, size_t row_len, uint8_t *out,
+                            size_t out_len);
 
 #ifdef __cplusplus
 }

@@ -1,4 +1,5 @@
-//! That nothing is forgotten: the archive exports, the header declares and the guarantee's lists speak of the same calls.
+//! That nothing is forgotten: the archive exports, the header declares and the guarantee's lists speak of the same calls;
+//! those that have to do with no store stand in none of its lists.
 #![cfg(feature = "linked")]
 
 use std::collections::BTreeSet;
@@ -9,6 +10,8 @@ use std::process::Command;
 const ARCHIVE: &str = "target/staticlib/librowstore.a";
 const HEADER: &str = "include/rowstore.h";
 const CALLS: &str = "crates/hosting/specs/Calls.antt";
+/// Calls that have to do with no store, and so with no list of calls.
+const BESIDE: [&str; 2] = ["to_cable", "from_cable"];
 
 type Names = BTreeSet<String>;
 
@@ -57,7 +60,7 @@ fn declared() -> Names {
     before.filter_map(name).collect()
 }
 
-/// The calls of the guarantee's lists: opening, and the constructors of HostCall.
+/// The calls of the guarantee's lists: opening, and the constructors of HostCall. And those beside them.
 fn guaranteed() -> Names {
     let text = text(CALLS);
     let (_, body) = text
@@ -69,7 +72,7 @@ fn guaranteed() -> Names {
         .filter(|line| !line.trim_start().starts_with("--"))
         .filter_map(|line| line.split_once(" : "))
         .flat_map(|(names, _)| names.split_whitespace());
-    let calls = constructors.chain(["open"]);
+    let calls = constructors.chain(["open"]).chain(BESIDE);
     calls.map(|call| format!("rowstore_{call}")).collect()
 }
 

@@ -1,13 +1,32 @@
--- The two theorems: a row turned to cable order and back is what it was, and so is one turned back and to cable order. Assumes nothing.
-use mathlib.Core.Path.{_≡_, sym, _∙_, ap}
+-- What an accepted turn leaves, bit by bit; and the two theorems: a row turned to cable order and back is what it was, and so is one turned back
+-- and to cable order. Assumes nothing.
+use mathlib.Core.Path.{_≡_, refl, sym, _∙_, ap, ap₂}
 use mathlib.Core.List.{List}
 use Prim.Native.Nat.{ℕ, _<_}
 use lib.ListN.{length}
+use Rattle.answers.specs.Laws.{verdict-none}
 use Rattle.hooks.specs.Order.{hookAt, positionOf}
 use Rattle.hooks.specs.Laws.{hook-below, position-below, hook-of-position, position-of-hook}
 use Rattle.rowbits.specs.Bits.{bitOf, Bytes}
-use Rattle.cables.specs.Cables.{turned, toCable, fromCable, Turns}
+use Rattle.cables.specs.Cables.{turned, toCable, fromCable, turnVerdict, Turns}
 use Rattle.cables.specs.Laws.{turned-bit, turned-size, turned-told, accepted}
+
+-- bit by bit
+
+turns-bit : (f : ℕ → ℕ) (row out out′ : List ℕ) → Turns (turned f) row out 0 out′ → (n : ℕ) → n < 1024 → bitOf out′ n ≡ bitOf row (f n)
+turns-bit f row out out′ t n l =
+    let v = verdict-none (turnVerdict row out) (sym (t .answers)) in
+    ap₂ bitOf (rw v at (t .leaves)) refl ∙ turned-bit f row n l
+
+-- each position carries the bit of its hook
+pub to-cable-bit : (row out out′ : List ℕ) → Turns toCable row out 0 out′ → (n : ℕ) → n < 1024 → bitOf out′ n ≡ bitOf row (hookAt n)
+to-cable-bit = turns-bit hookAt
+
+-- each hook has the bit of its position
+pub from-cable-bit : (row out out′ : List ℕ) → Turns fromCable row out 0 out′ → (h : ℕ) → h < 1024 → bitOf out′ h ≡ bitOf row (positionOf h)
+from-cable-bit = turns-bit positionOf
+
+-- there and back
 
 -- what f does to positions, g undoes
 module _ (f g : ℕ → ℕ) (below : (n : ℕ) → n < 1024 → g n < 1024) (undone : (n : ℕ) → n < 1024 → f (g n) ≡ n) where

@@ -1,3 +1,4 @@
 pub mod Cables
 pub mod Laws
 pub mod Back
+pub mod Worked

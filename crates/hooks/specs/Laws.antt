@@ -36,21 +36,25 @@ every-at f i [] e k l = absurd (omega arith)
 every-at f i (x ∷ xs) e zero l = ap (λ (j : ℕ). f j x) (omega arith) ∙ both (f i x) (every f (suc i) xs) e .0
 every-at f i (x ∷ xs) e (suc k) l = ap (λ (j : ℕ). f j (at xs k)) (omega arith) ∙ every-at f (suc i) xs (both (f i x) (every f (suc i) xs) e .1) k (omega arith)
 
--- the test of one entry: it is the hook of its position
+-- the test of one entry: it is the hook of its position, and that position is the hook's
 abbrev pub right : ℕ → ℕ → Bool
-right n h = eqb h (hookAt n)
+right n h = eqb h (hookAt n) && eqb (positionOf h) n
 
+-- both facts about a table come from this one test of the whole
 module _ (table : List ℕ) (tested : every right 0 table ≡ true) (size : length table ≡ 1024) where
-  rule : (n : ℕ) → n < 1024 → at table n ≡ hookAt n
-  rule n l = eqb-true (at table n) (hookAt n) (ap (λ (j : ℕ). right j (at table n)) (let e : n ≡ 0 + n = omega arith in e) ∙ every-at right 0 table tested n (omega arith))
+  entry : (n : ℕ) → n < 1024 → (at table n ≡ hookAt n) × (positionOf (at table n) ≡ n)
+  entry n l =
+      let t = ap (λ (j : ℕ). right j (at table n)) (let e : n ≡ 0 + n = omega arith in e) ∙ every-at right 0 table tested n (omega arith) in
+      let (a, b) = both (eqb (at table n) (hookAt n)) (eqb (positionOf (at table n)) n) t in
+      (eqb-true _ _ a, eqb-true _ _ b)
 
   pub ordered : Ordered table
   ordered = record {
     size = size;
-    rule = rule;
+    rule = λ n l. entry n l .0;
     once = λ h l. record {
       inside = omega (arith, size, position-below h l);
-      there = rule (positionOf h) (position-below h l) ∙ hook-of-position h l;
-      alone = λ m k e. sym (position-of-hook m (omega arith)) ∙ ap positionOf (sym (rule m (omega arith)) ∙ e);
+      there = entry (positionOf h) (position-below h l) .0 ∙ hook-of-position h l;
+      alone = λ m k e. sym (entry m (omega arith) .1) ∙ ap positionOf e;
     };
   }

@@ -1,5 +1,5 @@
 -- A bit that is put where 0 was stands there, and the others are as before. Assumes nothing.
-use mathlib.Core.Path.{_≡_, refl, sym, _∙_, ap}
+use mathlib.Core.Path.{_≡_, _∙_, ap}
 use mathlib.Core.Logic.{_≢_, by-cases}
 use mathlib.Core.Bool.{false}
 use mathlib.Core.List.{List}
