@@ -23,6 +23,9 @@ rowOf (suc n) f = binary f 8 ∷ rowOf n (λ i. f (8 + i))
 abbrev pub Bytes : List ℕ → Type 0
 Bytes row = (i : ℕ) → at row i < 256
 
--- the row with b in bit n, where 0 was
+-- the row with b in bit n, where 0 was: the byte that has the bit, and the whole
+abbrev pub byteWith : List ℕ → ℕ → ℕ → ℕ
+byteWith row n b = at row (n / 8) + b * 2 ^ (7 - n % 8)
+
 unfoldable pub putBit : List ℕ → ℕ → ℕ → List ℕ
-putBit row n b = set row (n / 8) (at row (n / 8) + b * 2 ^ (7 - n % 8))
+putBit row n b = set row (n / 8) (byteWith row n b)

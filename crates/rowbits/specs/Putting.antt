@@ -13,7 +13,7 @@ use borrow.Author.Tests.{eqb-true}
 use Rattle.basics.specs.Decide.{at}
 use Rattle.bits.specs.Bits.{bit}
 use Rattle.bits.specs.Laws.{byte-fits, byte-same, byte-other, one-shifted}
-use Rattle.rowbits.specs.Bits.{bitOf, putBit, Bytes}
+use Rattle.rowbits.specs.Bits.{bitOf, Bytes, byteWith, putBit}
 
 -- one byte
 
@@ -43,8 +43,8 @@ module _ (x s : ℕ) (l : x < 256) (m : s < 8) (z : bit x s ≡ 0) where
   sum-other (suc zero) k t h e = ap (λ (y : ℕ). bit y t) one ∙ byte-other x s l m clear t h e
   sum-other (suc (suc b)) k t h e = absurd (omega arith)
 
--- as the machine makes it
-pub shifted : (b s : ℕ) → b < 2 → s < 8 → (b * 2 ^ s) % 256 ≡ b * 2 ^ s
+-- a bit that is moved up stays in its byte
+shifted : (b s : ℕ) → b < 2 → s < 8 → (b * 2 ^ s) % 256 ≡ b * 2 ^ s
 shifted zero s k m = omega arith
 shifted (suc zero) s k m = one-shifted s m ∙ (let e : 2 ^ s ≡ 1 * 2 ^ s = omega arith in e)
 shifted (suc (suc b)) s k m = absurd (omega arith)
@@ -52,36 +52,42 @@ shifted (suc (suc b)) s k m = absurd (omega arith)
 -- rows
 
 module _ (row : List ℕ) (n b : ℕ) (inside : n < 8 * length row) (byte : at row (n / 8) < 256) (two : b < 2) (none : bitOf row n ≡ 0) where
-  here : n / 8 < length row
-  here = omega arith
-
   none-there : bit (at row (n / 8)) (7 - n % 8) ≡ 0
   unfolding bitOf
   none-there = none
 
+  fits : byteWith row n b < 256
+  fits = sum-fits (at row (n / 8)) (7 - n % 8) byte (omega arith) none-there b two
+
+  there : at (putBit row n b) (n / 8) ≡ byteWith row n b
+  unfolding putBit
+  there = getD-set-same row (n / 8) (byteWith row n b) 0 (omega arith)
+
+  elsewhere : (i : ℕ) → i ≢ n / 8 → at (putBit row n b) i ≡ at row i
+  unfolding putBit
+  elsewhere i e = getD-set-other row (n / 8) i (byteWith row n b) 0 e
+
+  pub put-size : length (putBit row n b) ≡ length row
+  unfolding putBit
+  put-size = length-set row (n / 8) (byteWith row n b)
+
+  pub put-same : bitOf (putBit row n b) n ≡ b
+  unfolding bitOf
+  put-same = ap (λ (y : ℕ). bit y (7 - n % 8)) there ∙ sum-same (at row (n / 8)) (7 - n % 8) byte (omega arith) none-there b two
+
+  pub put-other : (j : ℕ) → j ≢ n → bitOf (putBit row n b) j ≡ bitOf row j
+  unfolding bitOf
+  put-other j d = by-cases (ℕ-discrete (j / 8) (n / 8))
+      (λ e. rw (e, there) (sum-other (at row (n / 8)) (7 - n % 8) byte (omega arith) none-there b two (7 - j % 8) (omega arith) (λ q. d (omega (arith, e, q)))))
+      (λ e. ap (λ (y : ℕ). bit y (7 - j % 8)) (elsewhere (j / 8) e))
+
+  pub put-bytes : Bytes row → Bytes (putBit row n b)
+  put-bytes f i = by-cases (ℕ-discrete i (n / 8)) (λ e. rw (e, there) fits) (λ e. rw (elsewhere i e) (f i))
+
+  -- as the machine makes it
   pub put-fits : at row (n / 8) + (b * 2 ^ (7 - n % 8)) % 256 < 256
-  put-fits = rw (shifted b (7 - n % 8) two (omega arith)) (sum-fits (at row (n / 8)) (7 - n % 8) byte (omega arith) none-there b two)
+  put-fits = rw (shifted b (7 - n % 8) two (omega arith)) fits
 
   pub put-made : set row (n / 8) (at row (n / 8) + (b * 2 ^ (7 - n % 8)) % 256) ≡ putBit row n b
   unfolding putBit
   put-made = rw (shifted b (7 - n % 8) two (omega arith))
-
-  pub put-size : length (putBit row n b) ≡ length row
-  unfolding putBit
-  put-size = length-set row (n / 8) _
-
-  pub put-same : bitOf (putBit row n b) n ≡ b
-  unfolding bitOf putBit
-  put-same = ap (λ (y : ℕ). bit y (7 - n % 8)) (getD-set-same row (n / 8) (at row (n / 8) + b * 2 ^ (7 - n % 8)) 0 here) ∙ sum-same (at row (n / 8)) (7 - n % 8) byte (omega arith) none-there b two
-
-  pub put-other : (j : ℕ) → j ≢ n → bitOf (putBit row n b) j ≡ bitOf row j
-  unfolding bitOf putBit
-  put-other j d = by-cases (ℕ-discrete (j / 8) (n / 8))
-      (λ e. rw (e, getD-set-same row (n / 8) (at row (n / 8) + b * 2 ^ (7 - n % 8)) 0 here) (sum-other (at row (n / 8)) (7 - n % 8) byte (omega arith) none-there b two (7 - j % 8) (omega arith) (λ q. d (omega (arith, e, q)))))
-      (λ e. rw (getD-set-other row (n / 8) (j / 8) (at row (n / 8) + b * 2 ^ (7 - n % 8)) 0 e))
-
-  pub put-bytes : Bytes row → Bytes (putBit row n b)
-  unfolding putBit
-  put-bytes f i = by-cases (ℕ-discrete i (n / 8))
-      (λ e. rw (e, getD-set-same row (n / 8) (at row (n / 8) + b * 2 ^ (7 - n % 8)) 0 here) (sum-fits (at row (n / 8)) (7 - n % 8) byte (omega arith) none-there b two))
-      (λ e. rw (getD-set-other row (n / 8) i (at row (n / 8) + b * 2 ^ (7 - n % 8)) 0 e) (f i))
