@@ -4,7 +4,7 @@ ghost use Prim.Native.Nat.{_<_};
 ghost use lib.ListN.{length};
 ghost use Rattle.basics.specs.Decide.{at};
 ghost use Rattle.hooks.specs.Order.{Ordered};
-ghost use Rattle.cables.specs.Cables.{toCable, Turns};
+ghost use Rattle.cables.specs.Cables.{toCable};
 
 // Byte j of the row in cable order: the bits of eight hooks.
 fn gathered(row: &[u8], order: &[u16], j: usize) -> u8
@@ -22,7 +22,7 @@ fn gathered(row: &[u8], order: &[u16], j: usize) -> u8
 }
 
 // The whole row in cable order.
-fn gather(row: &[u8], order: &[u16], out: &mut [u8])
+pub fn gather(row: &[u8], order: &[u16], out: &mut [u8])
     requires { ⌜ (length (now row) ≡ 128) × Ordered (now order) × (length (now out) ≡ 128) ⌝ }
     ensures { λ r. ⌜ now (out .exit) ≡ toCable (now (row .entry)) ⌝ }
 {
@@ -31,19 +31,4 @@ fn gather(row: &[u8], order: &[u16], out: &mut [u8])
         out[j] = gathered(row, order, j);
         j += 1;
     }
-}
-
-// Refusal: 2, any length but 128 of the row or of the output, which then stays as it is.
-pub fn to_cable(row: &[u8], out: &mut [u8]) -> u8
-    ensures { λ answer. ⌜ Turns toCable (now (row .entry)) (now (out .entry)) answer (now (out .exit)) ⌝ }
-{
-    if row.len() != 128 {
-        return 2;
-    }
-    if out.len() != 128 {
-        return 2;
-    }
-    let order = hooks::order();
-    gather(row, &order, out);
-    0
 }

@@ -102,7 +102,7 @@ pub extern "C" fn rowstore_open(
 pub extern "C" fn rowstore_to_cable(row: &[u8], out: &mut [u8]) -> u8
     ensures { λ answer. ⌜ Turns toCable (now (row .entry)) (now (out .entry)) answer (now (out .exit)) ⌝ }
 {
-    gathering::to_cable(row, out)
+    cabling::to_cable(row, out)
 }
 
 // A row in cable order is turned back, into `out`. Refusal: 2.
@@ -110,5 +110,5 @@ pub extern "C" fn rowstore_to_cable(row: &[u8], out: &mut [u8]) -> u8
 pub extern "C" fn rowstore_from_cable(row: &[u8], out: &mut [u8]) -> u8
     ensures { λ answer. ⌜ Turns fromCable (now (row .entry)) (now (out .entry)) answer (now (out .exit)) ⌝ }
 {
-    spreading::from_cable(row, out)
+    cabling::from_cable(row, out)
 }

@@ -3,7 +3,7 @@ ghost use mathlib.Core.Path.{_≡_};
 ghost use Prim.Native.Nat.{_+_, _*_, _<_};
 ghost use lib.ListN.{length, replicate};
 ghost use Rattle.hooks.specs.Order.{Ordered};
-ghost use Rattle.cables.specs.Cables.{fromCable, Turns};
+ghost use Rattle.cables.specs.Cables.{fromCable};
 ghost use Rattle.spreading.specs.Spreading.{spreadTo};
 
 // The bits of byte j go to the hooks of its eight positions.
@@ -21,8 +21,8 @@ fn spread_byte(row: &[u8], order: &[u16], j: usize, out: &mut [u8])
     }
 }
 
-// The whole row, into an output that is all 0.
-fn spread(row: &[u8], order: &[u16], out: &mut [u8])
+// All bytes, into an output that is all 0.
+fn spread_bytes(row: &[u8], order: &[u16], out: &mut [u8])
     requires { ⌜ (length (now row) ≡ 128) × Ordered (now order) × (now out ≡ replicate 128 0) ⌝ }
     ensures { λ r. ⌜ now (out .exit) ≡ fromCable (now (row .entry)) ⌝ }
 {
@@ -33,19 +33,12 @@ fn spread(row: &[u8], order: &[u16], out: &mut [u8])
     }
 }
 
-// Refusal: 2, any length but 128 of the row or of the output, which then stays as it is.
-pub fn from_cable(row: &[u8], out: &mut [u8]) -> u8
-    ensures { λ answer. ⌜ Turns fromCable (now (row .entry)) (now (out .entry)) answer (now (out .exit)) ⌝ }
+// The whole row, hook 0 first.
+pub fn spread(row: &[u8], order: &[u16], out: &mut [u8])
+    requires { ⌜ (length (now row) ≡ 128) × Ordered (now order) × (length (now out) ≡ 128) ⌝ }
+    ensures { λ r. ⌜ now (out .exit) ≡ fromCable (now (row .entry)) ⌝ }
 {
-    if row.len() != 128 {
-        return 2;
-    }
-    if out.len() != 128 {
-        return 2;
-    }
-    let order = hooks::order();
     let zeros = [0u8; 128];
     placing::fill(out, &zeros);
-    spread(row, &order, out);
-    0
+    spread_bytes(row, order, out);
 }

@@ -1,12 +1,12 @@
--- `spreading::spread` meets its contract: byte after byte goes to its hooks. Assumes nothing.
+-- `spreading::spread_bytes` meets its contract: byte after byte goes to its hooks. Assumes nothing.
 use borrow.Author.Needs.{needs}
 use mathlib.Core.Path.{_≡_, refl, sym, _∙_, ap, ap₂}
 use Prim.Native.Nat.{ℕ, _-_, _*_, _≤_}
 use native.Mathlib.Omega.{arith}
 use lib.ListN.{length, length-replicate}
 use Rattle.spreading.specs.Spreading.{spreadTo, spread-size, spread-none, spread-all}
-use Rattle.spreading.proofs.spread.Statement.{statement}
-use Rattle.spreading.proofs.spread.Tie as tie
+use Rattle.spreading.proofs.spread_bytes.Statement.{statement}
+use Rattle.spreading.proofs.spread_bytes.Tie as tie
 
 abbrev Inv-loop : tie.InvT-loop
 Inv-loop row order out₀ j₀ out j = (j ≤ 128) × (out ≡ spreadTo (8 * j) row)
@@ -35,8 +35,8 @@ same-length c = ap length (c .before .loop .inv .1) ∙ spread-size _ _ ∙ sym 
 returns : tie.Need-returns Inv-loop μ-loop
 returns c = c .before .loop .inv .1 ∙ ap₂ spreadTo (let e : 8 * c .before .loop .j ≡ 1024 = omega arith in e) refl ∙ spread-all _
 
-pub spread-spec : {M : Type 1} → statement M
-spread-spec =
+pub spread-bytes-spec : {M : Type 1} → statement M
+spread-bytes-spec =
     tie.close
     (tie.spec
     Inv-loop
