@@ -9,17 +9,8 @@ expected=example/expected.txt
 warnings=(-Wall -Wextra -Werror)
 # The header promises that a call needs less; in KiB.
 stack=64
-passed=0
-
-fail() {
-  printf 'example: %s\n' "$1" >&2
-  exit 1
-}
-
-pass() {
-  printf 'example: %s\n' "$1"
-  passed=$((passed + 1))
-}
+title=example
+source example/steps.sh
 
 # The name of the step, then the command; its output must be the expected one.
 run() {
@@ -38,13 +29,21 @@ report() {
   pass "$step"
 }
 
+# The name of the step, what the compiler must say, then a C program that it must refuse.
+refuse() {
+  printf '#include "rowstore.h"\n%s\n' "$3" >"$out/wrong.c"
+  ! gcc -std=c11 "${warnings[@]}" -Iinclude -c "$out/wrong.c" -o "$out/wrong.o" 2>"$out/wrong.txt" || fail "$1: builds"
+  grep -q "$2" "$out/wrong.txt" || fail "$1: refused for another reason"
+  pass "$1"
+}
+
 small_stack() (
   ulimit -s "$stack" && exec "$@"
 )
 
 [[ -f $archive ]] || fail "$archive is not built"
 mkdir -p "$out"
-rm -f "$out/host" "$out/host_checked" "$out/host_cpp" "$out/stack" "$out/threads" "$out/threads_checked"
+rm -f "$out/host" "$out/host_checked" "$out/host_cpp" "$out/header" "$out/readonly" "$out/stack" "$out/threads" "$out/threads_checked"
 
 # A larger frame is probed in a loop through r11, which LLVM has been seen to do while r11 was in use.
 objdump -d --no-show-raw-insn "$archive" >"$out/library.txt" || fail 'library: cannot be read'
@@ -57,14 +56,30 @@ awk 'NR > 1 && $2 + $3 > 0 { found = 1 } END { exit NR < 2 || found }' "$out/siz
   fail 'library: has variables of its own'
 nm "$archive" >"$out/names.txt" || fail 'library: its names cannot be read'
 grep -q ' T rowstore_read$' "$out/names.txt" || fail 'library: has no names'
-! grep ' U ' "$out/names.txt" | grep -vE ' mem(cpy|move|set|cmp)$' >&2 || fail 'library: calls another function'
-pass 'library: has no variable of its own, and calls nothing but memcpy and its like'
+! grep ' U ' "$out/names.txt" | grep -vE ' mem(cpy|move|set)$' >&2 || fail 'library: calls another function'
+pass 'library: has no variable of its own, and calls nothing but memcpy, memmove and memset'
 
 gcc -std=c11 "${warnings[@]}" -Iinclude example/host.c "$archive" -o "$out/host" ||
   fail 'C11: does not build'
 pass 'C11: builds without a warning'
 run 'C11: prints what is expected' "$out/host"
 run "C11: the same with $stack KiB of stack" small_stack env -i "$out/host"
+
+gcc -std=c11 "${warnings[@]}" -O2 -Iinclude example/header.c "$archive" -o "$out/header" || fail 'header: does not build'
+report 'header: words, limits and offsets are those of the library' "$out/header"
+for language in c:c99 c:c17 c++:c++11 c++:c++20; do
+  gcc -x "${language%%:*}" -std="${language#*:}" -pedantic "${warnings[@]}" -fsyntax-only include/rowstore.h ||
+    fail "header: does not suit ${language#*:}"
+done
+pass 'header: C99, C17, C++11 and C++20 take it without a warning'
+refuse 'header: an answer that is not looked at is a warning' 'unused-result' \
+  'void f(uint8_t *records) { rowstore_delete(records, 518, 7); }'
+refuse 'header: measures out of their limits fail a static assertion' 'no such store' \
+  '_Static_assert(ROWSTORE_VALID(6, 8, 4), "no such store");'
+
+gcc -std=c11 "${warnings[@]}" -O2 -Iinclude example/readonly.c "$archive" -o "$out/readonly" ||
+  fail 'readonly: does not build'
+report 'readonly: refused calls, reads and counts write nothing' "$out/readonly"
 
 # Bound at its start, the program has no call in which the dynamic linker uses the stack too.
 gcc -std=c11 "${warnings[@]}" -O2 -Wl,-z,now -Iinclude example/stack.c "$archive" -o "$out/stack" ||

@@ -14,8 +14,6 @@ enum { LIMIT = 64 * 1024, STACK = 8 * LIMIT, KNOWN = 100000, PAINT = 0xa5 };
 enum { MOST_RECORDS = ROWSTORE_RECORDS_SIZE(1, ROWSTORE_MAX_PLACES) };
 enum { MOST_PLACES = ROWSTORE_MAX_PLACES * ROWSTORE_MAX_WIDTH };
 enum { UNKNOWN = 99 };
-/* From docs/LAYOUT.md: where the nodes' states start, and a ghost's state. */
-enum { STATES = 6, NODES = 128, GHOST = 2 };
 
 enum call {
   OPEN,
@@ -49,7 +47,7 @@ static uint8_t records[MOST_RECORDS], places[MOST_PLACES];
 static uint8_t written[(ROWSTORE_MAX_BORDER + 1) * ROWSTORE_MAX_WIDTH];
 static uint8_t out[ROWSTORE_MAX_WIDTH];
 static uint16_t border[ROWSTORE_MAX_BORDER + 1];
-static size_t rows, width, count, row, used, snapshots, done, sharers;
+static size_t rows, width, place_count, row, used, snapshots, done, sharers;
 static size_t records_len, places_len, row_len, out_len, border_len,
     border_bytes;
 static uint16_t tag, source;
@@ -77,7 +75,7 @@ static void make_call(void) {
   switch (next) {
   case OPEN:
     answer = rowstore_open(records, records_len, places, places_len, rows,
-                           width, count);
+                           width, place_count);
     break;
   case SNAPSHOT:
     answer = rowstore_snapshot(records, records_len, source, tag);
@@ -150,15 +148,15 @@ static void made(enum call call, uint8_t due) {
 }
 
 static void right_lengths(void) {
-  records_len = ROWSTORE_RECORDS_SIZE(rows, count);
-  places_len = ROWSTORE_PLACES_SIZE(width, count);
+  records_len = ROWSTORE_RECORDS_SIZE(rows, place_count);
+  places_len = ROWSTORE_PLACES_SIZE(width, place_count);
   row_len = width;
 }
 
 static void counted(size_t used_due, size_t snapshots_due, size_t ghosts_due) {
   size_t ghosts = 0;
-  for (size_t n = 0; n < NODES; n++) {
-    ghosts += records[STATES + n] == GHOST;
+  for (size_t n = 0; n < ROWSTORE_NODES; n++) {
+    ghosts += records[ROWSTORE_STATES_AT + n] == ROWSTORE_GHOST;
   }
   made(COUNT, ROWSTORE_OK);
   expect("places in use", used, used_due);
@@ -217,7 +215,7 @@ static void drop(uint16_t of, uint8_t due) {
 static void openings(size_t l, size_t b, size_t p) {
   rows = l;
   width = b;
-  count = p;
+  place_count = p;
   right_lengths();
   rows = 0;
   made(OPEN, ROWSTORE_BAD_SIZE);
@@ -307,7 +305,7 @@ static void borders(void) {
 /* A chain of 64 snapshots, then rows from the deepest up until every place is
  * in use: 63 ghosts, and so every node. */
 static void fill(size_t owned[ROWSTORE_MAX_SNAPSHOTS + 1]) {
-  size_t left = count - rows;
+  size_t left = place_count - rows;
   for (uint16_t i = 1; i <= ROWSTORE_MAX_SNAPSHOTS; i++) {
     take(i - 1, i, ROWSTORE_OK);
     owned[i] = 0;
@@ -319,7 +317,7 @@ static void fill(size_t owned[ROWSTORE_MAX_SNAPSHOTS + 1]) {
       left--;
     }
   }
-  counted(count, ROWSTORE_MAX_SNAPSHOTS, ROWSTORE_MAX_SNAPSHOTS - 1);
+  counted(place_count, ROWSTORE_MAX_SNAPSHOTS, ROWSTORE_MAX_SNAPSHOTS - 1);
 }
 
 static void refusals(void) {
@@ -386,7 +384,7 @@ static void unsound(void) {
 
 /* Rows are read and written in the full store, then every snapshot goes. */
 static void empty(const size_t owned[ROWSTORE_MAX_SNAPSHOTS + 1]) {
-  size_t last = rows - 1, left = count, alive = ROWSTORE_MAX_SNAPSHOTS;
+  size_t last = rows - 1, left = place_count, alive = ROWSTORE_MAX_SNAPSHOTS;
   counted(left, alive, alive - 1);
   get(ROWSTORE_MAX_SNAPSHOTS, 0, ROWSTORE_MAX_SNAPSHOTS, ROWSTORE_OK, 1);
   get(ROWSTORE_MAX_SNAPSHOTS, last, 0x20, ROWSTORE_OK, alive + 1);

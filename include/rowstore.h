@@ -1,9 +1,9 @@
 /* A store of rows with snapshots, in memory that the caller lends.
  *
- * A store has `rows` rows of `width` bytes each, and `count` places that hold
- * one row each. Tag 0 names the origin, which is always there; tags 1 to 65535
- * name snapshots. A snapshot shares its rows with its source; a shared row
- * moves to a place of its own when one of them is written.
+ * A store has `rows` rows of `width` bytes each, and `place_count` places that
+ * hold one row each. Tag 0 names the origin, which is always there; tags 1 to
+ * 65535 name snapshots. A snapshot shares its rows with its source; a shared
+ * row moves to a place of its own when one of them is written.
  *
  * Memory. The caller owns every buffer. All state of a store is in two of them,
  * its records and its places; the library allocates nothing, has no global
@@ -14,19 +14,39 @@
  * of the store.
  *
  * Pointers. No pointer may be NULL, even with length 0. The buffers of one call
- * must not overlap. Buffers of bytes need no alignment; numbers that a call
- * sets and the row numbers of a border are aligned as C asks of their types.
+ * must not overlap: to write a row with bytes of another one, read it out, then
+ * write; a pointer into the places is no source for a write. Buffers of bytes
+ * need no alignment; numbers that a call sets and the row numbers of a border
+ * are aligned as C asks of their types.
+ *
+ * Tags and row numbers of a border have 16 bits: C cuts a larger number without
+ * a word, so that tag 65543 is tag 7. Test what comes from elsewhere first.
  *
  * Answers. Each call returns ROWSTORE_OK or the number of the first test that
- * refused it, in the order given with the call. A refusal changes no byte of
- * any buffer; the numbers that rowstore_read, rowstore_count and
- * rowstore_border set are 0 then. Only a border that is refused at one of its
- * rows has changed something: the rows before it are written, and their number
- * is set.
+ * refused it, in the order given with the call; rowstore_text has the words for
+ * it. A refusal changes no byte of any buffer; the numbers that rowstore_read,
+ * rowstore_count and rowstore_border set are 0 then. Only a border that is
+ * refused at one of its rows has changed something: the rows before it are
+ * written, and their number is set.
+ *
+ * Refused calls, reads and counts write nothing to records and places, not even
+ * what is there already, so these may be read-only memory then. (Of a border,
+ * this is one that has done no row.)
  *
  * Every call on an open store judges the records first: bytes that are not
  * those of a store are refused with ROWSTORE_UNSOUND, and so are records of the
  * wrong length. docs/LAYOUT.md has their layout.
+ *
+ * That is no checksum. A flipped bit that leaves other sound records, as in a
+ * tag, is accepted, and so is any in the places, which are not judged. Where
+ * memory can rot, keep a CRC of both buffers and compare it before a call.
+ *
+ * Nor is a call atomic against a reset or a loss of power. If one comes in the
+ * middle of a snapshot, write, border or delete, any of the bytes that it
+ * changes may be old and others new: the next call may refuse the records with
+ * ROWSTORE_UNSOUND, or take them for a store that never was, with versions that
+ * read other rows. Where that can happen, keep a second copy of both buffers,
+ * call on one, and switch to it when the call has returned.
  *
  * Beside the store, rowstore_to_cable and rowstore_from_cable turn one row,
  * wherever it comes from, to cable order and back.
@@ -37,6 +57,24 @@
 #include <stddef.h>
 #include <stdint.h>
 
+/* Grows by 1 when a call, an answer or a constant comes, goes or changes. */
+#define ROWSTORE_VERSION 1
+
+/* Grows by 1 when the same store has other records: those of one layout are not
+ * for a library of another. */
+#define ROWSTORE_LAYOUT 1
+
+/* The compiler warns where an answer is not looked at, if it can. */
+#if defined(__cplusplus) && __cplusplus >= 201703L
+#define ROWSTORE_NODISCARD [[nodiscard]]
+#elif defined(__STDC_VERSION__) && __STDC_VERSION__ >= 202311L
+#define ROWSTORE_NODISCARD [[nodiscard]]
+#elif defined(__GNUC__)
+#define ROWSTORE_NODISCARD __attribute__((warn_unused_result))
+#else
+#define ROWSTORE_NODISCARD
+#endif
+
 #ifdef __cplusplus
 extern "C" {
 #endif
@@ -44,7 +82,7 @@ extern "C" {
 /* Answers. 1 to 5 and 25 come from the arguments, 20 to 24 from the store. */
 enum {
   ROWSTORE_OK = 0,              /* accepted */
-  ROWSTORE_BAD_SIZE = 1,        /* rows, width or count out of its limits */
+  ROWSTORE_BAD_SIZE = 1,        /* rows, width or place_count out of limits */
   ROWSTORE_BAD_LENGTH = 2,      /* a buffer is too short or too long */
   ROWSTORE_BAD_ROW = 3,         /* the store has no such row */
   ROWSTORE_ZERO_TAG = 4,        /* a new snapshot under tag 0 */
@@ -57,12 +95,51 @@ enum {
   ROWSTORE_TOO_MANY_ROWS = 25   /* more rows than a border may have */
 };
 
-/* Limits. Each measure is at least 1, and count at least rows. */
+/* The words for an answer. This function is in the header alone. */
+static inline const char *rowstore_text(uint8_t answer) {
+  switch (answer) {
+  case ROWSTORE_OK:
+    return "accepted";
+  case ROWSTORE_BAD_SIZE:
+    return "rows, width or place count out of its limits";
+  case ROWSTORE_BAD_LENGTH:
+    return "a buffer is too short or too long";
+  case ROWSTORE_BAD_ROW:
+    return "the store has no such row";
+  case ROWSTORE_ZERO_TAG:
+    return "a new snapshot under tag 0";
+  case ROWSTORE_ORIGIN_TAG:
+    return "the origin cannot be deleted";
+  case ROWSTORE_UNSOUND:
+    return "the records are not those of a store";
+  case ROWSTORE_UNKNOWN_TAG:
+    return "no living version has the tag";
+  case ROWSTORE_TAG_ALIVE:
+    return "a living snapshot has the new tag";
+  case ROWSTORE_SNAPSHOTS_FULL:
+    return "the most snapshots are alive";
+  case ROWSTORE_PLACES_FULL:
+    return "a shared row to change, and no place free";
+  case ROWSTORE_TOO_MANY_ROWS:
+    return "more rows than a border may have";
+  default:
+    return "no answer of this library";
+  }
+}
+
+/* Limits. Each measure is at least 1, and place_count at least rows. */
 #define ROWSTORE_MAX_ROWS 1024
 #define ROWSTORE_MAX_WIDTH 1024
 #define ROWSTORE_MAX_PLACES 4096
 #define ROWSTORE_MAX_SNAPSHOTS 64
 #define ROWSTORE_MAX_BORDER 64
+
+/* Whether the measures are within their limits, for a static assertion: it is a
+ * constant if they are. */
+#define ROWSTORE_VALID(rows, width, place_count)                               \
+  ((rows) >= 1 && (rows) <= ROWSTORE_MAX_ROWS && (width) >= 1 &&               \
+   (width) <= ROWSTORE_MAX_WIDTH && (place_count) >= (rows) &&                 \
+   (place_count) <= ROWSTORE_MAX_PLACES)
 
 /* Bytes of a row that is turned to cable order or back. */
 #define ROWSTORE_CABLE_SIZE 128
@@ -70,35 +147,56 @@ enum {
 /* The tag of the origin. */
 #define ROWSTORE_ORIGIN 0
 
-/* Where the table starts in the records; each of its entries takes 3 bytes. */
+/* Where the parts of the records start (docs/LAYOUT.md): the three measures,
+ * two bytes each; a state, a parent and a tag for each node, of 1, 1 and 2
+ * bytes; the table, a node of 1 byte for each place beyond rows, then a row of
+ * 2 bytes for each. The high byte of a number comes first. */
+#define ROWSTORE_ROWS_AT 0
+#define ROWSTORE_WIDTH_AT 2
+#define ROWSTORE_PLACE_COUNT_AT 4
+#define ROWSTORE_STATES_AT 6
+#define ROWSTORE_PARENTS_AT 134
+#define ROWSTORE_TAGS_AT 262
 #define ROWSTORE_TABLE_AT 518
+#define ROWSTORE_TABLE_ROWS_AT(rows, place_count)                              \
+  ((size_t)ROWSTORE_TABLE_AT + ((size_t)(place_count) - (size_t)(rows)))
 
-/* Bytes of the records, for measures within their limits. */
-#define ROWSTORE_RECORDS_SIZE(rows, places)                                    \
-  ((size_t)ROWSTORE_TABLE_AT + 3 * ((size_t)(places) - (size_t)(rows)))
+/* How many nodes there are, and the states of a node. */
+#define ROWSTORE_NODES 128
+#define ROWSTORE_EMPTY 0
+#define ROWSTORE_ALIVE 1
+#define ROWSTORE_GHOST 2
 
-/* Bytes of the places, for measures within their limits. */
-#define ROWSTORE_PLACES_SIZE(width, places) ((size_t)(places) * (size_t)(width))
+/* Bytes of the records. Both sizes are for measures within their limits, and
+ * mean nothing for others: see ROWSTORE_VALID. */
+#define ROWSTORE_RECORDS_SIZE(rows, place_count)                               \
+  ((size_t)ROWSTORE_TABLE_AT + 3 * ((size_t)(place_count) - (size_t)(rows)))
+
+/* Bytes of the places. */
+#define ROWSTORE_PLACES_SIZE(width, place_count)                               \
+  ((size_t)(place_count) * (size_t)(width))
 
 /* Opens a store: every row of the origin is zero, there are no snapshots.
  * What the buffers held before does not matter and is lost.
  *
- * records  filled; ROWSTORE_RECORDS_SIZE(rows, count) bytes
- * places   filled with zeros; ROWSTORE_PLACES_SIZE(width, count) bytes
- * rows     1 to ROWSTORE_MAX_ROWS
- * width    bytes of a row, 1 to ROWSTORE_MAX_WIDTH
- * count    places, rows to ROWSTORE_MAX_PLACES
+ * records      filled; ROWSTORE_RECORDS_SIZE(rows, place_count) bytes
+ * places       filled with zeros; ROWSTORE_PLACES_SIZE(width, place_count)
+ *              bytes
+ * rows         1 to ROWSTORE_MAX_ROWS
+ * width        bytes of a row, 1 to ROWSTORE_MAX_WIDTH
+ * place_count  rows to ROWSTORE_MAX_PLACES
  *
  * Both buffers stay the caller's, and are the store from now on: lend them,
  * with the same lengths, to the calls below and change no byte in between.
  *
  * Refusals, in order:
- *   ROWSTORE_BAD_SIZE    rows, width or count is out of its limits
+ *   ROWSTORE_BAD_SIZE    rows, width or place_count is out of its limits
  *   ROWSTORE_BAD_LENGTH  places_len or records_len is wrong
  */
-uint8_t rowstore_open(uint8_t *records, size_t records_len, uint8_t *places,
-                      size_t places_len, size_t rows, size_t width,
-                      size_t count);
+ROWSTORE_NODISCARD uint8_t rowstore_open(uint8_t *records, size_t records_len,
+                                         uint8_t *places, size_t places_len,
+                                         size_t rows, size_t width,
+                                         size_t place_count);
 
 /* Takes a snapshot of a version. It takes no place yet and reads no places.
  *
@@ -113,8 +211,9 @@ uint8_t rowstore_open(uint8_t *records, size_t records_len, uint8_t *places,
  *   ROWSTORE_TAG_ALIVE       a living snapshot has the tag already
  *   ROWSTORE_SNAPSHOTS_FULL  ROWSTORE_MAX_SNAPSHOTS snapshots are alive
  */
-uint8_t rowstore_snapshot(uint8_t *records, size_t records_len, uint16_t source,
-                          uint16_t tag);
+ROWSTORE_NODISCARD uint8_t rowstore_snapshot(uint8_t *records,
+                                             size_t records_len,
+                                             uint16_t source, uint16_t tag);
 
 /* Copies a row of a version to the caller's buffer.
  *
@@ -136,10 +235,12 @@ uint8_t rowstore_snapshot(uint8_t *records, size_t records_len, uint16_t source,
  *   ROWSTORE_BAD_ROW      the store has no such row
  *   ROWSTORE_UNKNOWN_TAG  no living version has the tag
  */
-uint8_t rowstore_read(const uint8_t *records, size_t records_len,
-                      const uint8_t *places, size_t places_len, uint16_t tag,
-                      size_t row, uint8_t *out, size_t out_len,
-                      size_t *sharers);
+ROWSTORE_NODISCARD uint8_t rowstore_read(const uint8_t *records,
+                                         size_t records_len,
+                                         const uint8_t *places,
+                                         size_t places_len, uint16_t tag,
+                                         size_t row, uint8_t *out,
+                                         size_t out_len, size_t *sharers);
 
 /* Writes a row of a version. No other version's rows change. A row that
  * another version shares takes one more place; any other is written where it
@@ -150,7 +251,8 @@ uint8_t rowstore_read(const uint8_t *records, size_t records_len,
  * places   changed
  * tag      the version, ROWSTORE_ORIGIN or a snapshot
  * row      the row, from 0
- * bytes    the new row, only read; as many bytes as a row has
+ * bytes    the new row, only read; as many bytes as a row has, and none of
+ *          them in the places
  *
  * Refusals, in order:
  *   ROWSTORE_UNSOUND      the records are not sound
@@ -160,9 +262,11 @@ uint8_t rowstore_read(const uint8_t *records, size_t records_len,
  *   ROWSTORE_PLACES_FULL  the row is shared, every place is in use and the
  *                         bytes are others
  */
-uint8_t rowstore_write(uint8_t *records, size_t records_len, uint8_t *places,
-                       size_t places_len, uint16_t tag, size_t row,
-                       const uint8_t *bytes, size_t bytes_len);
+ROWSTORE_NODISCARD uint8_t rowstore_write(uint8_t *records, size_t records_len,
+                                          uint8_t *places, size_t places_len,
+                                          uint16_t tag, size_t row,
+                                          const uint8_t *bytes,
+                                          size_t bytes_len);
 
 /* Writes rows of a version in their order, as rowstore_write would one by one,
  * up to the first that is refused. The rows before it stay written; it and
@@ -189,10 +293,12 @@ uint8_t rowstore_write(uint8_t *records, size_t records_len, uint8_t *places,
  *   ROWSTORE_PLACES_FULL    the row is shared, every place is in use and the
  *                           bytes are others
  */
-uint8_t rowstore_border(uint8_t *records, size_t records_len, uint8_t *places,
-                        size_t places_len, uint16_t tag, const uint16_t *rows,
-                        size_t rows_len, const uint8_t *bytes, size_t bytes_len,
-                        size_t *done);
+ROWSTORE_NODISCARD uint8_t rowstore_border(uint8_t *records, size_t records_len,
+                                           uint8_t *places, size_t places_len,
+                                           uint16_t tag, const uint16_t *rows,
+                                           size_t rows_len,
+                                           const uint8_t *bytes,
+                                           size_t bytes_len, size_t *done);
 
 /* Deletes a snapshot. Places that only it read are free again; their bytes
  * stay as they are. Snapshots taken of it live on.
@@ -205,7 +311,8 @@ uint8_t rowstore_border(uint8_t *records, size_t records_len, uint8_t *places,
  *   ROWSTORE_ORIGIN_TAG   tag is ROWSTORE_ORIGIN
  *   ROWSTORE_UNKNOWN_TAG  no living snapshot has the tag
  */
-uint8_t rowstore_delete(uint8_t *records, size_t records_len, uint16_t tag);
+ROWSTORE_NODISCARD uint8_t rowstore_delete(uint8_t *records, size_t records_len,
+                                           uint16_t tag);
 
 /* Counts places in use and living snapshots.
  *
@@ -218,8 +325,9 @@ uint8_t rowstore_delete(uint8_t *records, size_t records_len, uint16_t tag);
  * Refusals:
  *   ROWSTORE_UNSOUND  the records are not sound
  */
-uint8_t rowstore_count(const uint8_t *records, size_t records_len, size_t *used,
-                       size_t *snapshots);
+ROWSTORE_NODISCARD uint8_t rowstore_count(const uint8_t *records,
+                                          size_t records_len, size_t *used,
+                                          size_t *snapshots);
 
 /* Turns a row for the head of 1,024 hooks to cable order. A row has a bit for
  * each hook, and hook 0 is the highest bit of byte 0; in cable order position 0
@@ -233,8 +341,8 @@ uint8_t rowstore_count(const uint8_t *records, size_t records_len, size_t *used,
  * Refusals:
  *   ROWSTORE_BAD_LENGTH  row_len or out_len is wrong
  */
-uint8_t rowstore_to_cable(const uint8_t *row, size_t row_len, uint8_t *out,
-                          size_t out_len);
+ROWSTORE_NODISCARD uint8_t rowstore_to_cable(const uint8_t *row, size_t row_len,
+                                             uint8_t *out, size_t out_len);
 
 /* Turns a row in cable order back: what rowstore_to_cable made of a row is that
  * row again, and the other way round.
@@ -245,8 +353,9 @@ uint8_t rowstore_to_cable(const uint8_t *row, size_t row_len, uint8_t *out,
  * Refusals:
  *   ROWSTORE_BAD_LENGTH  row_len or out_len is wrong
  */
-uint8_t rowstore_from_cable(const uint8_t *row, size_t row_len, uint8_t *out,
-                            size_t out_len);
+ROWSTORE_NODISCARD uint8_t rowstore_from_cable(const uint8_t *row,
+                                               size_t row_len, uint8_t *out,
+                                               size_t out_len);
 
 #ifdef __cplusplus
 }

@@ -11,6 +11,7 @@ pub struct Version {
     pub marks: Vec<usize>,
 }
 
+#[derive(Clone)]
 pub struct Copies {
     pub measures: Measures,
     versions: BTreeMap<u16, Version>,

@@ -2,6 +2,7 @@
 
 use crate::layout::*;
 use std::collections::HashSet;
+use std::fmt;
 
 struct Node {
     state: u8,
@@ -24,9 +25,79 @@ pub struct Records {
     exceptions: Vec<Vec<(usize, usize)>>,
 }
 
+/// A rule that records break, and where it shows.
+#[derive(Clone, Debug, PartialEq)]
+pub struct Fault {
+    /// The rule's number in docs/LAYOUT.md.
+    pub rule: usize,
+    pub what: String,
+    /// The byte of the records that tells it; none if their length is wrong.
+    pub at: Option<usize>,
+}
+
+impl fmt::Display for Fault {
+    fn fmt(&self, to: &mut fmt::Formatter) -> fmt::Result {
+        write!(to, "rule {}: {}", self.rule, self.what)?;
+        self.at.map_or(Ok(()), |at| write!(to, " (byte {at})"))
+    }
+}
+
+/// A rule that is broken at a byte.
+fn broken(rule: usize, at: usize, what: String) -> Option<Fault> {
+    let at = Some(at);
+    Some(Fault { rule, what, at })
+}
+
+/// The first of the seven rules that record bytes break.
+pub fn fault(bytes: &[u8]) -> Option<Fault> {
+    match Records::of(bytes) {
+        Some(records) => records.fault(),
+        None => Some(misfit(bytes)),
+    }
+}
+
 /// Whether the record bytes meet all seven rules.
 pub fn sound(bytes: &[u8]) -> bool {
-    Records::of(bytes).is_some_and(|records| records.sound())
+    fault(bytes).is_none()
+}
+
+/// What is wrong with bytes whose length is not the one that their numbers give.
+fn misfit(bytes: &[u8]) -> Fault {
+    let len = bytes.len();
+    let wrong_length = |what| Fault {
+        rule: 1,
+        what,
+        at: None,
+    };
+    let Some(measures) = Measures::told_by(bytes) else {
+        return wrong_length(format!("{len} bytes, where the table starts at {TABLE}"));
+    };
+    beyond_limits(measures).unwrap_or_else(|| {
+        let Measures { rows, places, .. } = measures;
+        let due = measures.records_len();
+        wrong_length(format!(
+            "{len} bytes, not {due} as for L {rows} and P {places}"
+        ))
+    })
+}
+
+/// The first measure that is out of its limits.
+fn beyond_limits(measures: Measures) -> Option<Fault> {
+    let Measures {
+        rows,
+        width,
+        places,
+    } = measures;
+    let all = [
+        ("L", rows, 1, MAX_ROWS, ROWS),
+        ("B", width, 1, MAX_WIDTH, WIDTH),
+        ("P", places, rows, MAX_PLACES, PLACES),
+    ];
+    let beyond = |&(_, measure, least, most, _): &(_, usize, usize, usize, _)| {
+        !(least..=most).contains(&measure)
+    };
+    let (name, measure, least, most, at) = all.into_iter().find(beyond)?;
+    broken(1, at, format!("{name} is {measure}, not {least} to {most}"))
 }
 
 /// The place in which a tag's version reads a row of sound records.
@@ -68,13 +139,18 @@ impl Records {
     }
 
     pub fn sound(&self) -> bool {
-        self.within_measures()
-            && self.states_fit()
-            && self.all_reach_the_origin()
-            && self.tags_differ()
-            && self.children_fit()
-            && self.exceptions_fit()
-            && self.exceptions_are_read()
+        self.fault().is_none()
+    }
+
+    /// The first rule that is broken.
+    pub fn fault(&self) -> Option<Fault> {
+        beyond_limits(self.measures)
+            .or_else(|| (0..NODES).find_map(|n| self.wrong_state(n)))
+            .or_else(|| self.used().find_map(|n| self.wrong_way(n)))
+            .or_else(|| self.wrong_tags())
+            .or_else(|| self.wrong_children())
+            .or_else(|| (0..self.table.len()).find_map(|i| self.wrong_entry(i)))
+            .or_else(|| (0..self.table.len()).find_map(|i| self.unread_entry(i)))
     }
 
     /// Places that stand free, lowest first.
@@ -103,6 +179,19 @@ impl Records {
         self.nodes[node].parent
     }
 
+    pub fn tag(&self, node: usize) -> u16 {
+        self.nodes[node].tag
+    }
+
+    /// The rows of which a node has its own, rising, and the place of each.
+    pub fn own_rows(&self, node: usize) -> Vec<(usize, usize)> {
+        let rows = self.exceptions.iter().enumerate();
+        let own = rows.flat_map(|(row, all)| all.iter().map(move |&(n, place)| (n, row, place)));
+        own.filter(|&(n, ..)| n == node)
+            .map(|(_, row, place)| (row, place))
+            .collect()
+    }
+
     pub fn is_ghost(&self, node: usize) -> bool {
         self.nodes[node].state == GHOST
     }
@@ -129,7 +218,7 @@ impl Records {
         end.is_some_and(|end| way[..end].iter().any(|&node| self.is_ghost(node)))
     }
 
-    fn in_use(&self, node: usize) -> bool {
+    pub fn in_use(&self, node: usize) -> bool {
         node < NODES && self.nodes[node].state != EMPTY
     }
 
@@ -169,62 +258,115 @@ impl Records {
         None
     }
 
-    fn within_measures(&self) -> bool {
-        let Measures { rows, places, .. } = self.measures;
-        self.measures.within_limits() && self.table.len() == places - rows
+    /// The nodes in use but node 0.
+    fn used(&self) -> impl Iterator<Item = usize> + '_ {
+        (1..NODES).filter(|&n| self.in_use(n))
     }
 
-    fn states_fit(&self) -> bool {
-        let origin = &self.nodes[0];
-        let fits = |node: &Node| match node.state {
-            EMPTY => node.tag == 0 && node.parent == 0,
-            ALIVE => true,
-            GHOST => node.tag == 0,
-            _ => false,
+    /// Rule 2 at a node.
+    fn wrong_state(&self, n: usize) -> Option<Fault> {
+        let Node { state, parent, tag } = self.nodes[n];
+        let kind = match state {
+            EMPTY => "empty",
+            ALIVE => "alive",
+            GHOST => "a ghost",
+            _ => return broken(2, STATES + n, format!("node {n} has state {state}")),
         };
-        origin.state == ALIVE
-            && origin.tag == 0
-            && origin.parent == 0
-            && self.nodes.iter().all(fits)
+        if n == 0 && state != ALIVE {
+            return broken(2, STATES, format!("node 0 is {kind}, not alive"));
+        }
+        if tag != 0 && (n == 0 || state != ALIVE) {
+            let what = format!("node {n} is {kind} and has tag {tag}, not 0");
+            return broken(2, TAGS + 2 * n, what);
+        }
+        if parent != 0 && (n == 0 || state == EMPTY) {
+            let what = format!("node {n} is {kind} and has parent {parent}, not 0");
+            return broken(2, PARENTS + n, what);
+        }
+        None
     }
 
-    fn all_reach_the_origin(&self) -> bool {
-        let mut used = (1..NODES).filter(|&n| self.in_use(n));
-        used.all(|n| self.in_use(self.nodes[n].parent) && self.way_up(n).is_some())
+    /// Rule 3 at a node in use.
+    fn wrong_way(&self, n: usize) -> Option<Fault> {
+        let parent = self.nodes[n].parent;
+        let what = if !self.in_use(parent) {
+            format!("node {n} hangs on node {parent}, which is not in use")
+        } else if self.way_up(n).is_none() {
+            format!("the way up from node {n} does not end at node 0")
+        } else {
+            return None;
+        };
+        broken(3, PARENTS + n, what)
     }
 
-    fn tags_differ(&self) -> bool {
+    /// Rule 4.
+    fn wrong_tags(&self) -> Option<Fault> {
         let snapshots: Vec<usize> = self.living().filter(|&n| n != 0).collect();
         let tag = |n: usize| self.nodes[n].tag;
-        let alone = |&n: &usize| snapshots.iter().all(|&m| m == n || tag(m) != tag(n));
-        snapshots.len() <= 64
-            && snapshots.iter().all(|&n| tag(n) > 0)
-            && snapshots.iter().all(alone)
+        for (i, &n) in snapshots.iter().enumerate() {
+            let before = snapshots[..i].iter().find(|&&m| tag(m) == tag(n));
+            let what = match (tag(n), before) {
+                (0, _) => format!("node {n} is alive and has tag 0"),
+                (tag, Some(m)) => format!("nodes {m} and {n} both have tag {tag}"),
+                _ => continue,
+            };
+            return broken(4, TAGS + 2 * n, what);
+        }
+        let &beyond = snapshots.get(MAX_SNAPSHOTS)?;
+        let what = format!("{} snapshots are alive", snapshots.len());
+        broken(4, STATES + beyond, what)
     }
 
-    fn children_fit(&self) -> bool {
-        let mut ghosts = (0..NODES).filter(|&n| self.is_ghost(n));
-        self.children(0) <= 1 && ghosts.all(|n| self.children(n) >= 2)
+    /// Rule 5.
+    fn wrong_children(&self) -> Option<Fault> {
+        let mut top = self.used().filter(|&n| self.nodes[n].parent == 0);
+        if let (Some(first), Some(second)) = (top.next(), top.next()) {
+            let what = format!("nodes {first} and {second} both hang on node 0");
+            return broken(5, PARENTS + second, what);
+        }
+        let lone = |&n: &usize| self.is_ghost(n) && self.children(n) < 2;
+        let ghost = self.used().find(lone)?;
+        let what = match self.children(ghost) {
+            0 => format!("no node hangs on ghost {ghost}"),
+            _ => format!("one node alone hangs on ghost {ghost}"),
+        };
+        broken(5, STATES + ghost, what)
     }
 
-    fn exceptions_fit(&self) -> bool {
-        let fits = |entry: &Entry| match entry.node {
-            0 => entry.row == 0,
-            node => self.in_use(node) && entry.row < self.measures.rows,
-        };
-        let same = |a: &Entry, b: &Entry| a.node != 0 && a.node == b.node && a.row == b.row;
-        let alone = |i: usize| {
-            let mut later = self.table[i + 1..].iter();
-            later.all(|other| !same(&self.table[i], other))
-        };
-        self.table.iter().all(fits) && (0..self.table.len()).all(alone)
+    /// Rule 6 at an entry of the table.
+    fn wrong_entry(&self, i: usize) -> Option<Fault> {
+        let Entry { node, row } = self.table[i];
+        let (place, rows) = (self.measures.rows + i, self.measures.rows);
+        let (node_at, row_at) = (TABLE + i, TABLE + self.table.len() + 2 * i);
+        if node == 0 && row != 0 {
+            return broken(
+                6,
+                row_at,
+                format!("place {place} is free and has row {row}"),
+            );
+        }
+        if !self.in_use(node) {
+            let what = format!("place {place} is for node {node}, which is not in use");
+            return broken(6, node_at, what);
+        }
+        if row >= rows {
+            return broken(6, row_at, format!("place {place} has row {row} of {rows}"));
+        }
+        let same = |other: &Entry| node != 0 && other.node == node && other.row == row;
+        let first = rows + self.table[..i].iter().position(same)?;
+        let what = format!("places {first} and {place} both have row {row} of node {node}");
+        broken(6, node_at, what)
     }
 
-    fn exceptions_are_read(&self) -> bool {
-        let read = |(i, entry): (usize, &Entry)| {
-            let here = Some(self.measures.rows + i);
-            entry.node == 0 || self.living().any(|v| self.place_from(v, entry.row) == here)
-        };
-        self.table.iter().enumerate().all(read)
+    /// Rule 7 at an entry of the table.
+    fn unread_entry(&self, i: usize) -> Option<Fault> {
+        let Entry { node, row } = self.table[i];
+        let place = self.measures.rows + i;
+        let read = |version| self.place_from(version, row) == Some(place);
+        if node == 0 || self.living().any(read) {
+            return None;
+        }
+        let what = format!("nobody reads place {place}, row {row} of node {node}");
+        broken(7, TABLE + i, what)
     }
 }

@@ -35,6 +35,12 @@ pub const EMPTY: u8 = 0;
 pub const ALIVE: u8 = 1;
 pub const GHOST: u8 = 2;
 
+/// The most of each measure, and of snapshots alive.
+pub const MAX_ROWS: usize = 1024;
+pub const MAX_WIDTH: usize = 1024;
+pub const MAX_PLACES: usize = 4096;
+pub const MAX_SNAPSHOTS: usize = 64;
+
 /// The rows of a store, the bytes of a row, and the places.
 #[derive(Clone, Copy, Debug, PartialEq)]
 pub struct Measures {
@@ -65,9 +71,9 @@ impl Measures {
     }
 
     pub fn within_limits(&self) -> bool {
-        (1..=1024).contains(&self.rows)
-            && (1..=1024).contains(&self.width)
-            && (self.rows..=4096).contains(&self.places)
+        (1..=MAX_ROWS).contains(&self.rows)
+            && (1..=MAX_WIDTH).contains(&self.width)
+            && (self.rows..=MAX_PLACES).contains(&self.places)
     }
 
     /// For no more rows than places.
@@ -103,13 +109,13 @@ pub fn put_node(records: &mut [u8], node: usize, state: u8, parent: usize, tag: 
 /// The table's two halves: the nodes and the rows.
 pub fn table(records: &[u8]) -> (&[u8], &[[u8; 2]]) {
     let (nodes, rows) = records[TABLE..].split_at(entries(records));
-    (nodes, rows.as_chunks().0)
+    (nodes, arrays(rows))
 }
 
 pub fn table_mut(records: &mut [u8]) -> (&mut [u8], &mut [[u8; 2]]) {
     let entries = entries(records);
     let (nodes, rows) = records[TABLE..].split_at_mut(entries);
-    (nodes, rows.as_chunks_mut().0)
+    (nodes, arrays_mut(rows))
 }
 
 pub fn put_entry(records: &mut [u8], entry: usize, node: usize, row: usize) {
@@ -121,4 +127,17 @@ pub fn put_entry(records: &mut [u8], entry: usize, node: usize, row: usize) {
 /// How many entries records of this length have.
 fn entries(records: &[u8]) -> usize {
     (records.len() - TABLE) / ENTRY
+}
+
+/// Bytes as arrays of N, without those that are left over: what `as_chunks` gives from Rust 1.88 on.
+pub fn arrays<const N: usize>(bytes: &[u8]) -> &[[u8; N]] {
+    let whole = bytes.len() / N;
+    // SAFETY: so many arrays lie within the bytes, and need no alignment.
+    unsafe { std::slice::from_raw_parts(bytes.as_ptr().cast(), whole) }
+}
+
+fn arrays_mut<const N: usize>(bytes: &mut [u8]) -> &mut [[u8; N]] {
+    let whole = bytes.len() / N;
+    // SAFETY: as above, and nobody else holds them.
+    unsafe { std::slice::from_raw_parts_mut(bytes.as_mut_ptr().cast(), whole) }
 }

@@ -203,7 +203,7 @@ impl Nodes<'_> {
         let gather = |word: u64| (word.wrapping_mul(0x0102_0408_1020_4080) >> 56) as u8;
         let (mut living, mut ghosts) = ([0; NODES / 8], [0; NODES / 8]);
         let mut wrong = 0;
-        let (states, parents) = (self.states.as_chunks().0, self.parents.as_chunks().0);
+        let (states, parents) = (arrays(self.states), arrays(self.parents));
         for (group, (states, parents)) in states.iter().zip(parents).enumerate() {
             let states = u64::from_le_bytes(*states);
             let (alive, ghost) = (states & ONES, states >> 1 & ONES);
@@ -219,7 +219,7 @@ impl Nodes<'_> {
     /// Whether there are no more tags above 0 than living snapshots.
     fn tags_are_of(&self, snapshots: u32) -> bool {
         let mut tagged = 0;
-        for tag in self.tags.as_chunks().0 {
+        for tag in arrays(self.tags) {
             tagged += (u16::from_ne_bytes(*tag) != 0) as u16;
         }
         tagged as u32 == snapshots
@@ -709,7 +709,7 @@ fn node_of(records: &[u8], tag: u16) -> Option<usize> {
     if tag == 0 {
         return Some(0);
     }
-    let (tags, _) = Nodes::of(records)?.tags.as_chunks();
+    let tags = arrays(Nodes::of(records)?.tags);
     let wanted = tag.to_be_bytes();
     find(tags, |tag| tag == wanted)
 }

@@ -76,7 +76,7 @@ mod linked {
             places_len: usize,
             rows: usize,
             width: usize,
-            count: usize,
+            place_count: usize,
         ) -> u8;
         fn rowstore_snapshot(records: *mut u8, records_len: usize, source: u16, tag: u16) -> u8;
         fn rowstore_read(
@@ -128,8 +128,8 @@ mod linked {
         fn open(records: &mut [u8], places: &mut [u8], measures: Measures) -> u8 {
             let (r, r_len) = (records.as_mut_ptr(), records.len());
             let (p, p_len) = (places.as_mut_ptr(), places.len());
-            let (rows, width, count) = (measures.rows, measures.width, measures.places);
-            unsafe { rowstore_open(r, r_len, p, p_len, rows, width, count) }
+            let (rows, width, place_count) = (measures.rows, measures.width, measures.places);
+            unsafe { rowstore_open(r, r_len, p, p_len, rows, width, place_count) }
         }
 
         fn snapshot(records: &mut [u8], source: u16, tag: u16) -> u8 {

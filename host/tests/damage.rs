@@ -163,9 +163,9 @@ impl<S: Store> Findings<S> {
         self.sound += is_sound as usize;
         let parsed = is_sound.then(|| Records::of(records)).flatten();
         let fitting = parsed.filter(|p| p.measures.places_len() == sample.places.len());
+        let title = format!("{}, {}, {what}", self.title, sample.title);
         for call in [sample.calls(false), sample.calls(true)].as_flattened() {
-            let title = format_args!("{}, {}, {what}", self.title, sample.title);
-            let got = try_call::<S>(title, call, records, sample, is_sound);
+            let got = try_call::<S>(&title, call, records, sample, is_sound);
             self.calls += 1;
             if let Some(parsed) = &fitting {
                 let wanted = call.on_copies(&mut adopted(parsed, &sample.places));
@@ -202,7 +202,7 @@ impl<S: Store> Findings<S> {
 
 /// Makes one call, which must be 20 exactly if the records are not sound, and leave them sound.
 fn try_call<S: Store>(
-    title: std::fmt::Arguments,
+    title: &str,
     call: &Call,
     records: &[u8],
     sample: &Sample,
@@ -441,8 +441,8 @@ fn most_nodes<S: Store>() {
         for node in 1..=count {
             put_version(&mut sample.records, node, false, node - 1, node);
         }
-        let what = format_args!("a chain of {count}");
-        let is_sound = findings.try_records(what, &sample.records, &sample);
+        let what = format!("a chain of {count}");
+        let is_sound = findings.try_records(format_args!("{what}"), &sample.records, &sample);
         assert_eq!(is_sound, count <= 64, "{what}");
     }
     let mut sample = blank(&mut dice, 2, 40);

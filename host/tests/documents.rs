@@ -3,7 +3,15 @@
 use std::fs;
 use std::path::{Path, PathBuf};
 
-const FOLDERS: [&str; 5] = ["crates/", "docs/", "example/", "host/", "include/"];
+const FOLDERS: [&str; 7] = [
+    "crates/",
+    "docs/",
+    "example/",
+    "host/",
+    "include/",
+    "packaging/",
+    "scripts/",
+];
 
 fn project() -> PathBuf {
     Path::new(env!("CARGO_MANIFEST_DIR")).join("..")

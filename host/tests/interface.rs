@@ -1,5 +1,5 @@
 //! That nothing is forgotten: the archive exports, the header declares and the guarantee's lists speak of the same calls;
-//! those that have to do with no store stand in none of its lists.
+//! those that have to do with no store stand in none of its lists. README and manual page name every call and every answer.
 #![cfg(feature = "linked")]
 
 use std::collections::BTreeSet;
@@ -10,6 +10,8 @@ use std::process::Command;
 const ARCHIVE: &str = "target/staticlib/librowstore.a";
 const HEADER: &str = "include/rowstore.h";
 const CALLS: &str = "crates/hosting/specs/Calls.antt";
+const README: &str = "README.md";
+const MANUAL: &str = "packaging/rowstore.3";
 /// Calls that have to do with no store, and so with no list of calls.
 const BESIDE: [&str; 2] = ["to_cable", "from_cable"];
 const LISTED: &str = "the guarantee's lists and beside them";
@@ -50,10 +52,12 @@ fn bare(text: &str) -> String {
     lines.collect::<Vec<_>>().join("\n")
 }
 
-/// Every function that the header declares: what stands before a declaration's first parenthesis.
+/// Every function that the header declares: what stands before a declaration's first parenthesis. One that it defines is
+/// no call of the library.
 fn declared() -> Names {
     let code = bare(&text(HEADER));
     let before = code.split(';').filter_map(|part| part.split_once('('));
+    let before = before.filter(|(before, _)| !before.contains("static inline "));
     let name = |(before, _): (&str, &str)| {
         let mut words = before.split(|c: char| !(c.is_alphanumeric() || c == '_'));
         words.rfind(|word| !word.is_empty()).map(str::to_string)
@@ -93,6 +97,42 @@ fn the_same_calls_everywhere() {
         for (place, _) in sets.iter().filter(|(_, names)| !names.contains(name)) {
             missing.push(format!("{name} is not in {place}"));
         }
+    }
+    assert!(missing.is_empty(), "{}", missing.join("\n"));
+}
+
+/// The answers that the header lists, with their numbers.
+fn answers() -> Vec<(String, u8)> {
+    let code = bare(&text(HEADER));
+    let (_, listed) = code.split_once("enum {").expect("the answers");
+    let (listed, _) = listed.split_once('}').expect("their end");
+    let answer = |part: &str| {
+        let (name, number) = part.split_once(" = ").expect("a name and a number");
+        let number = number.trim().parse().expect("a number");
+        (name.trim().to_string(), number)
+    };
+    listed.split(',').map(answer).collect()
+}
+
+#[test]
+fn readme_and_manual_name_them_all() {
+    let (readme, manual) = (text(README), text(MANUAL));
+    let answers = answers();
+    assert!(answers.len() > 11, "only {} answers", answers.len());
+    let mut missing = Vec::new();
+    let mut look = |document: &str, place: &str, wanted: String| {
+        if !document.contains(&wanted) {
+            missing.push(format!("{place} has no {wanted}"));
+        }
+    };
+    for call in declared() {
+        look(&readme, README, format!("| `{call}` |"));
+        look(&manual, MANUAL, format!(" {call}("));
+        look(&manual, MANUAL, format!("\n{call}\t"));
+    }
+    for (name, number) in &answers {
+        look(&readme, README, format!("| {number} | `{name}` |"));
+        look(&manual, MANUAL, format!(".BR {name} \" ({number})\"\n"));
     }
     assert!(missing.is_empty(), "{}", missing.join("\n"));
 }

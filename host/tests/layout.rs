@@ -5,7 +5,7 @@
 
 use rowstore_host::layout::*;
 use rowstore_host::store::answer::{ACCEPTED, LENGTH};
-use rowstore_host::store::{Proved, Store};
+use rowstore_host::store::{Proved, Store, MAX_BORDER};
 
 const DOCUMENT: &str = include_str!("../../docs/LAYOUT.md");
 const HEADER: &str = include_str!("../../include/rowstore.h");
@@ -93,8 +93,49 @@ fn offsets_of_parts() {
     // The table has a line for each half.
     listed.dedup();
     assert_eq!(listed, PARTS);
-    let define = format!("\n#define ROWSTORE_TABLE_AT {TABLE}\n");
+    // What the header calls the parts, in their order.
+    let names = [
+        "ROWS",
+        "WIDTH",
+        "PLACE_COUNT",
+        "STATES",
+        "PARENTS",
+        "TAGS",
+        "TABLE",
+    ];
+    for (name, (_, start)) in names.into_iter().zip(PARTS) {
+        in_header(&format!("{name}_AT {start}"));
+    }
+}
+
+/// Fails unless the header has the constant.
+fn in_header(constant: &str) {
+    let define = format!("\n#define ROWSTORE_{constant}\n");
     assert!(HEADER.contains(&define), "not in the header: {define}");
+}
+
+#[test]
+fn limits_and_states() {
+    in_header(&format!("MAX_ROWS {MAX_ROWS}"));
+    in_header(&format!("MAX_WIDTH {MAX_WIDTH}"));
+    in_header(&format!("MAX_PLACES {MAX_PLACES}"));
+    in_header(&format!("MAX_SNAPSHOTS {MAX_SNAPSHOTS}"));
+    in_header(&format!("MAX_BORDER {MAX_BORDER}"));
+    in_header(&format!("NODES {NODES}"));
+    in_header(&format!("EMPTY {EMPTY}"));
+    in_header(&format!("ALIVE {ALIVE}"));
+    in_header(&format!("GHOST {GHOST}"));
+}
+
+/// The number that the document has for this layout.
+#[test]
+fn number_of_the_layout() {
+    let told = DOCUMENT
+        .split_once("This is layout ")
+        .expect("its number")
+        .1;
+    let number: String = told.chars().take_while(char::is_ascii_digit).collect();
+    in_header(&format!("LAYOUT {number}"));
 }
 
 #[test]

@@ -5,6 +5,7 @@ use rowstore_host::copies::Copies;
 use rowstore_host::dice::Dice;
 use rowstore_host::layout::Measures;
 use std::collections::BTreeMap;
+use std::fs::{self, File};
 use std::io::Write;
 use std::path::PathBuf;
 use std::process::{Command, Stdio};
@@ -13,14 +14,17 @@ use std::process::{Command, Stdio};
 const SHELF: Measures = Measures::of(4, 8, 6);
 const PLACES_LEN: usize = SHELF.places_len();
 
+fn program() -> Command {
+    Command::new(PathBuf::from(env!("CARGO_MANIFEST_DIR")).join("../target/bin/shelf"))
+}
+
 /// What the program prints for a stream.
 fn printed(stream: &[u8]) -> Vec<u8> {
-    let program = PathBuf::from(env!("CARGO_MANIFEST_DIR")).join("../target/bin/shelf");
-    let mut child = Command::new(&program)
+    let mut child = program()
         .stdin(Stdio::piped())
         .stdout(Stdio::piped())
         .spawn()
-        .unwrap_or_else(|error| panic!("{}: {error}", program.display()));
+        .unwrap_or_else(|error| panic!("{:?}: {error}", program()));
     let mut input = child.stdin.take().expect("standard input is piped");
     // A stream that is too long need not be read to its end.
     let _ = input.write_all(stream);
@@ -254,4 +258,23 @@ fn every_number_of_sharers() {
     assert_eq!(seen.sharers, once, "{seen:?}");
     assert!(seen.answers[&23] == 1 && seen.answers[&21] == 1, "{seen:?}");
     println!("every number of sharers: {seen:?}");
+}
+
+/// Input that cannot be read counts as ended, and output that cannot be written is lost: the status is 0.
+#[test]
+fn status_where_nothing_can_be_read_or_written() {
+    let folder = File::open(env!("CARGO_MANIFEST_DIR")).expect("this folder");
+    let output = program().stdin(folder).output().expect("the program ends");
+    assert_eq!(output.status.code(), Some(0));
+    assert!(output.stdout.is_empty());
+    let full = fs::OpenOptions::new().write(true).open("/dev/full");
+    let mut child = program()
+        .stdin(Stdio::piped())
+        .stdout(full.expect("a device that takes nothing"))
+        .spawn()
+        .expect("the program starts");
+    let input = child.stdin.take();
+    let count = input.expect("standard input").write_all(&[5]);
+    count.expect("a command is sent");
+    assert_eq!(child.wait().expect("the program ends").code(), Some(0));
 }

@@ -78,21 +78,21 @@ pub extern "C" fn rowstore_read(
     host_read::read(records, places, tag, Row(row), out, sharers)
 }
 
-// A store of `rows` rows of `width` bytes in `count` places. Refusals: 1, 2.
+// A store of `rows` rows of `width` bytes in `place_count` places. Refusals: 1, 2.
 #[no_mangle]
 pub extern "C" fn rowstore_open(
     records: &mut [u8],
     places: &mut [u8],
     rows: usize,
     width: usize,
-    count: usize,
+    place_count: usize,
 ) -> u8
-    ensures { λ answer. ⌜ HostOpens (sizeOf rows width count) (now (records .entry)) (now (places .entry)) answer (now (records .exit), now (places .exit)) ⌝ }
+    ensures { λ answer. ⌜ HostOpens (sizeOf rows width «place_count») (now (records .entry)) (now (places .entry)) answer (now (records .exit), now (places .exit)) ⌝ }
 {
     let size = Size {
         rows,
         width,
-        places: count,
+        places: place_count,
     };
     host_open::open(records, places, size)
 }

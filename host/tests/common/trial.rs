@@ -427,7 +427,7 @@ impl<S: Store> Trial<S> {
                     self.compare_row(tag, row);
                     self.compare_sharing(&records, row);
                 }
-                if self.made.is_multiple_of(judge_every) {
+                if self.made % judge_every == 0 {
                     self.judge(&records);
                     self.compare_count();
                 }
