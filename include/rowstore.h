@@ -42,8 +42,8 @@
  * memory can rot, keep a CRC of both buffers and compare it before a call.
  *
  * Nor is a call atomic against a reset or a loss of power. If one comes in the
- * middle of a snapshot, write, border or delete, any of the bytes that it
- * changes may be old and others new: the next call may refuse the records with
+ * middle of a call that changes the store, any of the bytes that it changes may
+ * be old and others new: the next call may refuse the records with
  * ROWSTORE_UNSOUND, or take them for a store that never was, with versions that
  * read other rows. Where that can happen, keep a second copy of both buffers,
  * call on one, and switch to it when the call has returned.
