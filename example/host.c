@@ -16,7 +16,8 @@ static uint8_t places[ROWSTORE_PLACES_SIZE(WIDTH, PLACES)];
 /* Ends the program unless the answer is the one that is due. */
 static void expect(const char *call, unsigned answer, unsigned due) {
   if (answer != due) {
-    fprintf(stderr, "%s: answer %u, expected %u\n", call, answer, due);
+    fprintf(stderr, "%s: %s (%u), expected %u\n", call,
+            rowstore_text((uint8_t)answer), answer, due);
     exit(EXIT_FAILURE);
   }
 }

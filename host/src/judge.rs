@@ -70,13 +70,15 @@ fn misfit(bytes: &[u8]) -> Fault {
         at: None,
     };
     let Some(measures) = Measures::told_by(bytes) else {
-        return wrong_length(format!("{len} bytes, where the table starts at {TABLE}"));
+        return wrong_length(format!(
+            "the length is {len}, and the table starts at {TABLE}"
+        ));
     };
     beyond_limits(measures).unwrap_or_else(|| {
         let Measures { rows, places, .. } = measures;
         let due = measures.records_len();
         wrong_length(format!(
-            "{len} bytes, not {due} as for L {rows} and P {places}"
+            "the length is {len}, not {due} as for L {rows} and P {places}"
         ))
     })
 }

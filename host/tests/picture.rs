@@ -363,7 +363,7 @@ fn damage_is_named() {
         (
             PLACES + 1,
             9,
-            "rule 1: 530 bytes, not 533 as for L 4 and P 9",
+            "rule 1: the length is 530, not 533 as for L 4 and P 9",
         ),
         (STATES + 5, 3, "rule 2: node 5 has state 3 (byte 11)"),
         (STATES, 2, "rule 2: node 0 is a ghost, not alive (byte 6)"),
@@ -453,7 +453,7 @@ fn damage_is_named() {
     let short = fault(&example()[..500]).map(|fault| fault.to_string());
     assert_eq!(
         short.as_deref(),
-        Some("rule 1: 500 bytes, where the table starts at 518")
+        Some("rule 1: the length is 500, and the table starts at 518")
     );
     let mut many = vec![0; Measures::of(1, 1, 1).records_len()];
     Measures::of(1, 1, 1).put(&mut many);
