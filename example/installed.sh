@@ -21,21 +21,30 @@ first_program() {
   [[ $out == "$printed" ]] || fail "the first program printed '$out'"
 }
 
+# Every file that the list of an installation names is there, for all to read, below the folder given.
+all_there() {
+  local file
+  [[ -s $1 ]] || fail 'nothing was installed'
+  while read -r _ file; do
+    [[ $file == "$2"/* && -s $file && $(stat -c %a "$file") == 644 ]] ||
+      fail "$file is elsewhere, empty, not there or not for all to read"
+  done <"$1"
+  cmp -s include/rowstore.h "$2/include/rowstore.h" || fail 'another header'
+}
+
 block c >"$work/try.c"
 grep -q 'int main' "$work/try.c" || fail 'README.md has no first program'
 printed=$(sed -n 's|.*/\* prints: \(.*\) \*/.*|\1|p' "$work/try.c")
 [[ -n $printed ]] || fail 'the first program does not say what it prints'
 
 make --no-print-directory install PREFIX="$work/usr" >"$work/list"
-while read -r _ file; do
-  [[ -s $file && $(stat -c %a "$file") == 644 ]] || fail "$file is empty, not there or not for all to read"
-done <"$work/list"
-cmp -s include/rowstore.h "$work/usr/include/rowstore.h" || fail 'another header'
+all_there "$work/list" "$work/usr"
 pass "$(wc -l <"$work/list") files are there"
 
 # A system root: files go below DESTDIR, and the pkg-config file speaks of PREFIX alone.
 make --no-print-directory install PREFIX=/usr DESTDIR="$work/root" >"$work/list_root"
-! grep -rq "$work" "$work/root/usr/lib/pkgconfig" || fail 'the pkg-config file has DESTDIR in it'
+all_there "$work/list_root" "$work/root/usr"
+grep -qx 'prefix=/usr' "$work/root/usr/lib/pkgconfig/rowstore.pc" || fail 'the pkg-config file has another prefix'
 pass 'the same below DESTDIR'
 
 if command -v pkg-config >/dev/null; then
