@@ -73,7 +73,7 @@ for language in c:c99 c:c17 c++:c++11 c++:c++20; do
 done
 pass 'header: C99, C17, C++11 and C++20 take it without a warning'
 refuse 'header: an answer that is not looked at is a warning' 'unused-result' \
-  'void f(uint8_t *records) { rowstore_delete(records, 646, 7); }'
+  'void f(uint8_t *records) { rowstore_delete(records, 518, 7); }'
 refuse 'header: measures out of their limits fail a static assertion' 'no such store' \
   '_Static_assert(ROWSTORE_VALID(6, 8, 4), "no such store");'
 

@@ -58,11 +58,10 @@ static void try_limits(void) {
 /* Every answer has words of its own; what is no answer has none. */
 static void try_words(void) {
   static const uint8_t answers[] = {
-      ROWSTORE_OK,           ROWSTORE_BAD_SIZE,       ROWSTORE_BAD_LENGTH,
-      ROWSTORE_BAD_ROW,      ROWSTORE_ZERO_TAG,       ROWSTORE_ORIGIN_TAG,
-      ROWSTORE_UNSOUND,      ROWSTORE_UNKNOWN_TAG,    ROWSTORE_TAG_ALIVE,
-      ROWSTORE_PLACES_FULL,  ROWSTORE_SNAPSHOTS_FULL, ROWSTORE_TOO_MANY_ROWS,
-      ROWSTORE_TAG_RELEASED, ROWSTORE_ORIGIN_RELEASE};
+      ROWSTORE_OK,          ROWSTORE_BAD_SIZE,       ROWSTORE_BAD_LENGTH,
+      ROWSTORE_BAD_ROW,     ROWSTORE_ZERO_TAG,       ROWSTORE_ORIGIN_TAG,
+      ROWSTORE_UNSOUND,     ROWSTORE_UNKNOWN_TAG,    ROWSTORE_TAG_ALIVE,
+      ROWSTORE_PLACES_FULL, ROWSTORE_SNAPSHOTS_FULL, ROWSTORE_TOO_MANY_ROWS};
   size_t known = 0;
   for (unsigned answer = 0; answer <= UINT8_MAX; answer++) {
     const char *words = rowstore_text((uint8_t)answer);
@@ -81,8 +80,7 @@ static void try_words(void) {
   }
 }
 
-/* A snapshot of the origin is node 1; written, it takes the first place, and
- * released, it has the only flag. */
+/* A snapshot of the origin is node 1; written, it takes the first place. */
 static void try_offsets(void) {
   enum { TAG = 0x0102, ROW = 0x0101 };
   static const uint8_t bytes[WIDTH] = {1};
@@ -97,9 +95,6 @@ static void try_offsets(void) {
          rowstore_write(records, sizeof records, places, sizeof places, TAG,
                         ROW, bytes, sizeof bytes),
          ROWSTORE_OK);
-  expect("flag of node 1", records[ROWSTORE_RELEASED_AT + 1], 0);
-  expect("release", rowstore_release(records, sizeof records, TAG),
-         ROWSTORE_OK);
   expect("rows", number(ROWSTORE_ROWS_AT), ROWS);
   expect("width", number(ROWSTORE_WIDTH_AT), WIDTH);
   expect("place_count", number(ROWSTORE_PLACE_COUNT_AT), PLACES);
@@ -108,9 +103,6 @@ static void try_offsets(void) {
          ROWSTORE_EMPTY);
   expect("parent of node 1", records[ROWSTORE_PARENTS_AT + 1], 0);
   expect("tag of node 1", number(ROWSTORE_TAGS_AT + 2), TAG);
-  for (size_t n = 0; n < ROWSTORE_NODES; n++) {
-    expect("flag of a node", records[ROWSTORE_RELEASED_AT + n], n == 1);
-  }
   expect("node of the first entry", records[ROWSTORE_TABLE_AT], 1);
   expect("row of the first entry", number(ROWSTORE_TABLE_ROWS_AT(ROWS, PLACES)),
          ROW);

@@ -1,6 +1,5 @@
-/* A store of four rows in six places, all of its memory lent by this program,
- * with a snapshot that is released; then a row for the head of 1,024 hooks,
- * turned to cable order and back. */
+/* A store of four rows in six places, all of its memory lent by this program;
+ * then a row for the head of 1,024 hooks, turned to cable order and back. */
 #include "rowstore.h"
 
 #include <stdio.h>
@@ -8,7 +7,7 @@
 #include <string.h>
 
 enum { ROWS = 4, WIDTH = 8, PLACES = 6 };
-enum { ROW = 2, TAG = 7, DONE = 8, NEXT = 9, BORDER = 3 };
+enum { ROW = 2, TAG = 7, BORDER = 3 };
 enum { FILES = 16, HOOKS = 64 };
 
 static uint8_t records[ROWSTORE_RECORDS_SIZE(ROWS, PLACES)];
@@ -131,39 +130,6 @@ static void refused_write(void) {
   }
 }
 
-/* A released snapshot keeps its rows, and is not deleted; its copy is free. */
-static void release(void) {
-  uint8_t bytes[WIDTH];
-  memset(bytes, 0xe2, sizeof bytes);
-  expect("snapshot",
-         rowstore_snapshot(records, sizeof records, ROWSTORE_ORIGIN, DONE),
-         ROWSTORE_OK);
-  printf("snapshot: version %d as %d\n", ROWSTORE_ORIGIN, DONE);
-  expect("release", rowstore_release(records, sizeof records, DONE),
-         ROWSTORE_OK);
-  printf("release: version %d\n", DONE);
-  uint8_t answer =
-      rowstore_write(records, sizeof records, places, sizeof places, DONE, ROW,
-                     bytes, sizeof bytes);
-  expect("write of a released version", answer, ROWSTORE_TAG_RELEASED);
-  printf("write: version %d, row %d, refused with %u\n", DONE, ROW,
-         (unsigned)answer);
-  answer = rowstore_delete(records, sizeof records, DONE);
-  expect("delete of a released version", answer, ROWSTORE_TAG_RELEASED);
-  printf("delete: version %d, refused with %u\n", DONE, (unsigned)answer);
-  answer = rowstore_release(records, sizeof records, ROWSTORE_ORIGIN);
-  expect("release of the origin", answer, ROWSTORE_ORIGIN_RELEASE);
-  printf("release: version %d, refused with %u\n", ROWSTORE_ORIGIN,
-         (unsigned)answer);
-  expect("snapshot", rowstore_snapshot(records, sizeof records, DONE, NEXT),
-         ROWSTORE_OK);
-  printf("snapshot: version %d as %d\n", DONE, NEXT);
-  write_row(NEXT, 0xe2);
-  write_row(ROWSTORE_ORIGIN, 0xf2);
-  read_row(NEXT, ROW, 0xe2, 1);
-  read_row(DONE, ROW, 0xb2, 1);
-}
-
 /* The bits of a row, from the highest of byte 0 on. */
 static void print_bits(const char *name, const uint8_t *row) {
   printf("%s:\n", name);
@@ -252,9 +218,6 @@ int main(void) {
   read_row(ROWSTORE_ORIGIN, ROW, 0xb2, 1);
   read_row(ROWSTORE_ORIGIN, 3, 0xd3, 1);
   count(4, 0);
-
-  release();
-  count(6, 2);
 
   turn_row();
   return EXIT_SUCCESS;

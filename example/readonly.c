@@ -12,7 +12,7 @@
 #include <sys/wait.h>
 #include <unistd.h>
 
-enum { WIDTH = 4, UNKNOWN = 99, RELEASED = 64 };
+enum { WIDTH = 4, UNKNOWN = 99 };
 
 /* The store, with a byte more for each buffer, and its measures. */
 static uint8_t *records, *places;
@@ -77,16 +77,12 @@ static uint8_t border(size_t len, size_t lent, uint16_t tag, size_t row,
                          bytes, rows_len * WIDTH, &done);
 }
 
-static uint8_t release(size_t len, uint16_t tag) {
-  return rowstore_release(records, len, tag);
-}
-
 static uint8_t count(size_t len) {
   size_t used, snapshots;
   return rowstore_count(records, len, &used, &snapshots);
 }
 
-/* A full store in which 65 versions share the last row; one is released. */
+/* A full store in which 65 versions share the last row. */
 static void fill(void) {
   expect("open", open_store(records_len, places_len, rows), ROWSTORE_OK);
   for (uint16_t tag = 1; tag <= ROWSTORE_MAX_SNAPSHOTS; tag++) {
@@ -100,7 +96,6 @@ static void fill(void) {
            ROWSTORE_OK);
     written++;
   }
-  expect("release", release(records_len, RELEASED), ROWSTORE_OK);
 }
 
 /* An accepted write to read-only memory must end a process. */
@@ -137,25 +132,16 @@ static void refuse_all(size_t n) {
   expect("write", write_row(n, places_len, 0, 0, WIDTH - 1), 2);
   expect("write", write_row(n, places_len, 0, rows, WIDTH), 3);
   expect("write", write_row(n, places_len, UNKNOWN, 0, WIDTH), 21);
-  expect("write", write_row(n, places_len, RELEASED, 0, WIDTH), 26);
-  expect("write", write_row(n, places_len, RELEASED, rows - 1, WIDTH), 26);
   expect("write", write_row(n, places_len, 0, rows - 1, WIDTH), 24);
   expect("border", border(n - 1, places_len, 0, 0, 1), 20);
   expect("border", border(n, places_len, 0, 0, ROWSTORE_MAX_BORDER + 1), 25);
   expect("border", border(n, places_len + 1, 0, 0, 1), 2);
   expect("border", border(n, places_len, UNKNOWN, 0, 1), 21);
-  expect("border", border(n, places_len, RELEASED, 0, 1), 26);
-  expect("border", border(n, places_len, RELEASED, rows, 1), 26);
-  expect("border", border(n, places_len, RELEASED, 0, 0), 26);
   expect("border", border(n, places_len, 0, rows, 1), 3);
   expect("border", border(n, places_len, 0, rows - 1, 1), 24);
   expect("delete", rowstore_delete(records, n - 1, 1), 20);
   expect("delete", rowstore_delete(records, n, 0), 5);
   expect("delete", rowstore_delete(records, n, UNKNOWN), 21);
-  expect("delete", rowstore_delete(records, n, RELEASED), 26);
-  expect("release", release(n - 1, 1), 20);
-  expect("release", release(n, 0), 27);
-  expect("release", release(n, UNKNOWN), 21);
   expect("count", count(n - 1), 20);
 }
 
@@ -181,7 +167,6 @@ static void refuse_damaged(void) {
       expect("write", write_row(records_len, places_len, 0, 0, WIDTH), 20);
       expect("border", border(records_len, places_len, 0, 0, 1), 20);
       expect("delete", rowstore_delete(records, records_len, 1), 20);
-      expect("release", release(records_len, 1), 20);
     }
     protect(PROT_READ | PROT_WRITE);
     records[at] ^= 0x80;

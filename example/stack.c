@@ -22,7 +22,6 @@ enum call {
   WRITE,
   BORDER,
   DELETE,
-  RELEASE,
   COUNT,
   TO_CABLE,
   FROM_CABLE,
@@ -30,8 +29,8 @@ enum call {
 };
 
 static const char *const names[FILL_KNOWN] = {
-    "open",   "snapshot", "read",  "write",    "border",
-    "delete", "release",  "count", "to cable", "from cable"};
+    "open",   "snapshot", "read",     "write",     "border",
+    "delete", "count",    "to cable", "from cable"};
 
 struct figure {
   size_t bytes;
@@ -95,9 +94,6 @@ static void make_call(void) {
     break;
   case DELETE:
     answer = rowstore_delete(records, records_len, tag);
-    break;
-  case RELEASE:
-    answer = rowstore_release(records, records_len, tag);
     break;
   case COUNT:
     answer = rowstore_count(records, records_len, &used, &snapshots);
@@ -214,11 +210,6 @@ static void get(uint16_t of, size_t at, uint8_t byte, uint8_t due,
 static void drop(uint16_t of, uint8_t due) {
   tag = of;
   made(DELETE, due);
-}
-
-static void release(uint16_t of, uint8_t due) {
-  tag = of;
-  made(RELEASE, due);
 }
 
 static void openings(size_t l, size_t b, size_t p) {
@@ -366,31 +357,6 @@ static void refusals(void) {
   take(ROWSTORE_ORIGIN, UNKNOWN, ROWSTORE_SNAPSHOTS_FULL);
   drop(ROWSTORE_ORIGIN, ROWSTORE_ORIGIN_TAG);
   drop(UNKNOWN, ROWSTORE_UNKNOWN_TAG);
-  release(ROWSTORE_ORIGIN, ROWSTORE_ORIGIN_RELEASE);
-  release(UNKNOWN, ROWSTORE_UNKNOWN_TAG);
-}
-
-/* Every snapshot of the full store is released, a second time too, and then
- * neither written nor deleted. No call takes that back, so it is done by hand.
- */
-static void releases(void) {
-  uint8_t *flags = &records[ROWSTORE_RELEASED_AT];
-  for (uint16_t i = 1; i <= ROWSTORE_MAX_SNAPSHOTS; i++) {
-    release(i, ROWSTORE_OK);
-    release(i, ROWSTORE_OK);
-    put(i, 0, 1, ROWSTORE_TAG_RELEASED);
-    line_up(1, ROWSTORE_MAX_BORDER, 1);
-    put_border(i, ROWSTORE_TAG_RELEASED, 0);
-    drop(i, ROWSTORE_TAG_RELEASED);
-    get(i, rows - 1, 0x20, ROWSTORE_OK, ROWSTORE_MAX_SNAPSHOTS + 1);
-  }
-  counted(place_count, ROWSTORE_MAX_SNAPSHOTS, ROWSTORE_MAX_SNAPSHOTS - 1);
-  size_t released = 0;
-  for (size_t n = 0; n < ROWSTORE_NODES; n++) {
-    released += flags[n];
-  }
-  expect("flags", released, ROWSTORE_MAX_SNAPSHOTS);
-  memset(flags, 0, ROWSTORE_NODES);
 }
 
 static void all_unsound(void) {
@@ -399,14 +365,12 @@ static void all_unsound(void) {
   put(ROWSTORE_ORIGIN, 0, 1, ROWSTORE_UNSOUND);
   put_border(ROWSTORE_ORIGIN, ROWSTORE_UNSOUND, 0);
   drop(1, ROWSTORE_UNSOUND);
-  release(1, ROWSTORE_UNSOUND);
   made(COUNT, ROWSTORE_UNSOUND);
   expect("places in use", used, 0);
   expect("snapshots", snapshots, 0);
 }
 
-/* Records that are too short, a last entry with a row beyond the last, and the
- * origin's flag. */
+/* Records that are too short, and a last entry with a row beyond the last. */
 static void unsound(void) {
   records_len--;
   all_unsound();
@@ -416,9 +380,6 @@ static void unsound(void) {
   *high = 0xff;
   all_unsound();
   *high = before;
-  records[ROWSTORE_RELEASED_AT] = 1;
-  all_unsound();
-  records[ROWSTORE_RELEASED_AT] = 0;
 }
 
 /* Rows are read and written in the full store, then every snapshot goes. */
@@ -455,7 +416,6 @@ static void store(size_t l, size_t b, size_t p) {
   borders();
   fill(owned);
   refusals();
-  releases();
   unsound();
   empty(owned);
 }
@@ -485,7 +445,7 @@ int main(void) {
   turns(FROM_CABLE);
   for (size_t i = OPEN; i < FILL_KNOWN; i++) {
     const struct figure *f = &figures[i];
-    printf("stack: %-10s %6zu bytes; %4u calls accepted, %3u refused\n",
+    printf("stack: %-10s %6zu bytes; %4u calls accepted, %2u refused\n",
            names[i], f->bytes, f->accepted, f->refused);
     if (f->bytes >= LIMIT) {
       fprintf(stderr, "stack: %s: less than %d are promised\n", names[i],

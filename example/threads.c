@@ -169,24 +169,6 @@ static void read_and_count(const struct store *s, const struct copies *due) {
   count(s, 7, 2);
 }
 
-/* Tag 2 is released: it reads as before, and stays as it is. */
-static void let_go(struct store *s, const struct copies *due) {
-  size_t len = sizeof s->records;
-  expect("release of the origin",
-         rowstore_release(s->records, len, ROWSTORE_ORIGIN),
-         ROWSTORE_ORIGIN_RELEASE);
-  expect("release of tag 1", rowstore_release(s->records, len, 1),
-         ROWSTORE_UNKNOWN_TAG);
-  expect("release", rowstore_release(s->records, len, 2), ROWSTORE_OK);
-  expect("release again", rowstore_release(s->records, len, 2), ROWSTORE_OK);
-  expect("write of tag 2", put(s, 2, 0, 1), ROWSTORE_TAG_RELEASED);
-  expect("border of tag 2", put_border(s, 2, 1, 0), ROWSTORE_TAG_RELEASED);
-  expect("delete of tag 2", rowstore_delete(s->records, len, 2),
-         ROWSTORE_TAG_RELEASED);
-  read_rows(s, due, 2);
-  count(s, 6, 1);
-}
-
 /* Tag 1 goes, and the refusals say so. */
 static void take_down(struct store *s, struct copies *due) {
   uint8_t out[WIDTH];
@@ -225,7 +207,6 @@ static void *own_store(void *argument) {
     build(s, &due, round * THREADS + task->number);
     read_and_count(s, &due);
     take_down(s, &due);
-    let_go(s, &due);
     turn_row(turned[task->number]);
   }
   return NULL;

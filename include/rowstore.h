@@ -5,10 +5,6 @@
  * 65535 name snapshots. A snapshot shares its rows with its source; a shared
  * row moves to a place of its own when one of them is written.
  *
- * A snapshot can be released, once and for all: from then on it is read,
- * counted and copied, but neither written nor deleted. A snapshot taken of it
- * is not released.
- *
  * Memory. The caller owns every buffer. All state of a store is in two of them,
  * its records and its places; the library allocates nothing, has no global
  * state and keeps no pointer once a call has returned. Stores are independent,
@@ -42,9 +38,8 @@
  * wrong length. docs/LAYOUT.md has their layout.
  *
  * That is no checksum. A flipped bit that leaves other sound records, as in a
- * tag or in the flag of a snapshot, is accepted, and so is any in the places,
- * which are not judged. Where memory can rot, keep a CRC of both buffers and
- * compare it before a call.
+ * tag, is accepted, and so is any in the places, which are not judged. Where
+ * memory can rot, keep a CRC of both buffers and compare it before a call.
  *
  * Nor is a call atomic against a reset or a loss of power. If one comes in the
  * middle of a call that changes the store, any of the bytes that it changes may
@@ -63,11 +58,11 @@
 #include <stdint.h>
 
 /* Grows by 1 when a call, an answer or a constant comes, goes or changes. */
-#define ROWSTORE_VERSION 2
+#define ROWSTORE_VERSION 1
 
 /* Grows by 1 when the same store has other records: those of one layout are not
  * for a library of another. */
-#define ROWSTORE_LAYOUT 2
+#define ROWSTORE_LAYOUT 1
 
 /* The compiler warns where an answer is not looked at, if it can. */
 #if defined(__cplusplus) && __cplusplus >= 201703L
@@ -84,8 +79,7 @@
 extern "C" {
 #endif
 
-/* Answers. 1 to 5, 25 and 27 come from the arguments, 20 to 24 and 26 from the
- * store. */
+/* Answers. 1 to 5 and 25 come from the arguments, 20 to 24 from the store. */
 enum {
   ROWSTORE_OK = 0,              /* accepted */
   ROWSTORE_BAD_SIZE = 1,        /* rows, width or place_count out of limits */
@@ -98,9 +92,7 @@ enum {
   ROWSTORE_TAG_ALIVE = 22,      /* a living snapshot has the new tag */
   ROWSTORE_SNAPSHOTS_FULL = 23, /* the most snapshots are alive */
   ROWSTORE_PLACES_FULL = 24,    /* a shared row to change, and no place free */
-  ROWSTORE_TOO_MANY_ROWS = 25,  /* more rows than a border may have */
-  ROWSTORE_TAG_RELEASED = 26,   /* the version is released */
-  ROWSTORE_ORIGIN_RELEASE = 27  /* the origin cannot be released */
+  ROWSTORE_TOO_MANY_ROWS = 25   /* more rows than a border may have */
 };
 
 /* The words for an answer. This function is in the header alone. */
@@ -130,10 +122,6 @@ static inline const char *rowstore_text(uint8_t answer) {
     return "a shared row to change, and no place free";
   case ROWSTORE_TOO_MANY_ROWS:
     return "more rows than a border may have";
-  case ROWSTORE_TAG_RELEASED:
-    return "the version is released";
-  case ROWSTORE_ORIGIN_RELEASE:
-    return "the origin cannot be released";
   default:
     return "no answer of this library";
   }
@@ -160,18 +148,16 @@ static inline const char *rowstore_text(uint8_t answer) {
 #define ROWSTORE_ORIGIN 0
 
 /* Where the parts of the records start (docs/LAYOUT.md): the three measures,
- * two bytes each; a state, a parent, a tag and a flag, 1 if its version is
- * released, for each node, of 1, 1, 2 and 1 bytes; the table, a node of 1 byte
- * for each place beyond rows, then a row of 2 bytes for each. The high byte of
- * a number comes first. */
+ * two bytes each; a state, a parent and a tag for each node, of 1, 1 and 2
+ * bytes; the table, a node of 1 byte for each place beyond rows, then a row of
+ * 2 bytes for each. The high byte of a number comes first. */
 #define ROWSTORE_ROWS_AT 0
 #define ROWSTORE_WIDTH_AT 2
 #define ROWSTORE_PLACE_COUNT_AT 4
 #define ROWSTORE_STATES_AT 6
 #define ROWSTORE_PARENTS_AT 134
 #define ROWSTORE_TAGS_AT 262
-#define ROWSTORE_RELEASED_AT 518
-#define ROWSTORE_TABLE_AT 646
+#define ROWSTORE_TABLE_AT 518
 #define ROWSTORE_TABLE_ROWS_AT(rows, place_count)                              \
   ((size_t)ROWSTORE_TABLE_AT + ((size_t)(place_count) - (size_t)(rows)))
 
@@ -215,8 +201,7 @@ ROWSTORE_NODISCARD uint8_t rowstore_open(uint8_t *records, size_t records_len,
 /* Takes a snapshot of a version. It takes no place yet and reads no places.
  *
  * records  changed
- * source   the tag of a living version, ROWSTORE_ORIGIN or a snapshot, released
- *          or not; the new snapshot is not released
+ * source   the tag of a living version, ROWSTORE_ORIGIN or a snapshot
  * tag      the new snapshot's tag, not 0; that of a deleted one will do
  *
  * Refusals, in order:
@@ -260,8 +245,7 @@ ROWSTORE_NODISCARD uint8_t rowstore_read(const uint8_t *records,
 /* Writes a row of a version. No other version's rows change. A row that
  * another version shares takes one more place; any other is written where it
  * is, even if no place is free. Bytes that the version reads there already are
- * accepted and change nothing: no place is taken, even of a shared row. A
- * released version refuses them too.
+ * accepted and change nothing: no place is taken, even of a shared row.
  *
  * records  changed
  * places   changed
@@ -271,13 +255,12 @@ ROWSTORE_NODISCARD uint8_t rowstore_read(const uint8_t *records,
  *          them in the places
  *
  * Refusals, in order:
- *   ROWSTORE_UNSOUND       the records are not sound
- *   ROWSTORE_BAD_LENGTH    places_len or bytes_len is wrong
- *   ROWSTORE_BAD_ROW       the store has no such row
- *   ROWSTORE_UNKNOWN_TAG   no living version has the tag
- *   ROWSTORE_TAG_RELEASED  the version is released
- *   ROWSTORE_PLACES_FULL   the row is shared, every place is in use and the
- *                          bytes are others
+ *   ROWSTORE_UNSOUND      the records are not sound
+ *   ROWSTORE_BAD_LENGTH   places_len or bytes_len is wrong
+ *   ROWSTORE_BAD_ROW      the store has no such row
+ *   ROWSTORE_UNKNOWN_TAG  no living version has the tag
+ *   ROWSTORE_PLACES_FULL  the row is shared, every place is in use and the
+ *                         bytes are others
  */
 ROWSTORE_NODISCARD uint8_t rowstore_write(uint8_t *records, size_t records_len,
                                           uint8_t *places, size_t places_len,
@@ -296,7 +279,7 @@ ROWSTORE_NODISCARD uint8_t rowstore_write(uint8_t *records, size_t records_len,
  * bytes    the new rows one after the other, only read; rows_len times as
  *          many bytes as a row has
  * done     set to how many rows were written: rows_len if accepted, 0 with
- *          one of the first five refusals
+ *          one of the first four refusals
  *
  * The number is the caller's, as every buffer, and is apart.
  *
@@ -305,7 +288,6 @@ ROWSTORE_NODISCARD uint8_t rowstore_write(uint8_t *records, size_t records_len,
  *   ROWSTORE_TOO_MANY_ROWS  rows_len is above ROWSTORE_MAX_BORDER
  *   ROWSTORE_BAD_LENGTH     places_len or bytes_len is wrong
  *   ROWSTORE_UNKNOWN_TAG    no living version has the tag
- *   ROWSTORE_TAG_RELEASED   the version is released, even with no rows
  * and then, of row after row:
  *   ROWSTORE_BAD_ROW        the store has no such row
  *   ROWSTORE_PLACES_FULL    the row is shared, every place is in use and the
@@ -325,28 +307,12 @@ ROWSTORE_NODISCARD uint8_t rowstore_border(uint8_t *records, size_t records_len,
  * tag      the snapshot
  *
  * Refusals, in order:
- *   ROWSTORE_UNSOUND       the records are not sound
- *   ROWSTORE_ORIGIN_TAG    tag is ROWSTORE_ORIGIN
- *   ROWSTORE_UNKNOWN_TAG   no living snapshot has the tag
- *   ROWSTORE_TAG_RELEASED  the snapshot is released
+ *   ROWSTORE_UNSOUND      the records are not sound
+ *   ROWSTORE_ORIGIN_TAG   tag is ROWSTORE_ORIGIN
+ *   ROWSTORE_UNKNOWN_TAG  no living snapshot has the tag
  */
 ROWSTORE_NODISCARD uint8_t rowstore_delete(uint8_t *records, size_t records_len,
                                            uint16_t tag);
-
-/* Releases a snapshot: no call changes its rows or deletes it from now on, and
- * none takes that back. It is read, counted and copied as before. One that is
- * released already is accepted, and nothing changes.
- *
- * records  changed
- * tag      the snapshot
- *
- * Refusals, in order:
- *   ROWSTORE_UNSOUND         the records are not sound
- *   ROWSTORE_ORIGIN_RELEASE  tag is ROWSTORE_ORIGIN
- *   ROWSTORE_UNKNOWN_TAG     no living snapshot has the tag
- */
-ROWSTORE_NODISCARD uint8_t rowstore_release(uint8_t *records,
-                                            size_t records_len, uint16_t tag);
 
 /* Counts places in use and living snapshots.
  *

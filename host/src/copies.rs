@@ -4,12 +4,11 @@ use crate::layout::Measures;
 use crate::store::{answer::*, MAX_BORDER};
 use std::collections::BTreeMap;
 
-/// A version's rows one after the other, the mark of each, and whether the version is released.
+/// A version's rows one after the other, and the mark of each.
 #[derive(Clone)]
 pub struct Version {
     pub bytes: Vec<u8>,
     pub marks: Vec<usize>,
-    pub released: bool,
 }
 
 #[derive(Clone)]
@@ -31,7 +30,6 @@ impl Copies {
         let origin = Version {
             bytes: vec![0; measures.rows * measures.width],
             marks: (0..measures.rows).collect(),
-            released: false,
         };
         Ok(Copies::of(measures, BTreeMap::from([(0, origin)])))
     }
@@ -60,11 +58,7 @@ impl Copies {
         if self.snapshots() == 64 {
             return SNAPSHOTS;
         }
-        let unreleased = Version {
-            released: false,
-            ..copied.clone()
-        };
-        self.versions.insert(tag, unreleased);
+        self.versions.insert(tag, copied.clone());
         ACCEPTED
     }
 
@@ -83,9 +77,6 @@ impl Copies {
     pub fn write(&mut self, places_len: usize, tag: u16, row: usize, bytes: &[u8]) -> u8 {
         if let Err(refusal) = self.row_refusal(places_len, tag, row, bytes.len()) {
             return refusal;
-        }
-        if self.released(tag) {
-            return TAG_RELEASED;
         }
         if self.row(tag, row) == bytes {
             return ACCEPTED;
@@ -120,9 +111,6 @@ impl Copies {
         if !self.versions.contains_key(&tag) {
             return (NO_VERSION, 0);
         }
-        if self.released(tag) {
-            return (TAG_RELEASED, 0);
-        }
         for (done, (&row, bytes)) in rows.iter().zip(bytes.chunks(width)).enumerate() {
             let answer = self.write(places_len, tag, row.into(), bytes);
             if answer != ACCEPTED {
@@ -136,30 +124,10 @@ impl Copies {
         if tag == 0 {
             return ORIGIN;
         }
-        if !self.versions.contains_key(&tag) {
-            return NO_VERSION;
+        match self.versions.remove(&tag) {
+            Some(_) => ACCEPTED,
+            None => NO_VERSION,
         }
-        if self.released(tag) {
-            return TAG_RELEASED;
-        }
-        self.versions.remove(&tag);
-        ACCEPTED
-    }
-
-    pub fn release(&mut self, tag: u16) -> u8 {
-        if tag == 0 {
-            return ORIGIN_RELEASE;
-        }
-        let Some(version) = self.versions.get_mut(&tag) else {
-            return NO_VERSION;
-        };
-        version.released = true;
-        ACCEPTED
-    }
-
-    /// Whether a living version is released.
-    pub fn released(&self, tag: u16) -> bool {
-        self.versions[&tag].released
     }
 
     /// Places in use and snapshots alive.

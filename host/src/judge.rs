@@ -8,7 +8,6 @@ struct Node {
     state: u8,
     parent: usize,
     tag: u16,
-    flag: u8,
 }
 
 /// An entry of the table: free if its node is 0.
@@ -49,7 +48,7 @@ fn broken(rule: usize, at: usize, what: String) -> Option<Fault> {
     Some(Fault { rule, what, at })
 }
 
-/// The first of the eight rules that record bytes break.
+/// The first of the seven rules that record bytes break.
 pub fn fault(bytes: &[u8]) -> Option<Fault> {
     match Records::of(bytes) {
         Some(records) => records.fault(),
@@ -57,7 +56,7 @@ pub fn fault(bytes: &[u8]) -> Option<Fault> {
     }
 }
 
-/// Whether the record bytes meet all eight rules.
+/// Whether the record bytes meet all seven rules.
 pub fn sound(bytes: &[u8]) -> bool {
     fault(bytes).is_none()
 }
@@ -120,7 +119,6 @@ impl Records {
             state: bytes[STATES + n],
             parent: bytes[PARENTS + n] as usize,
             tag: number(bytes, TAGS + 2 * n),
-            flag: flags(bytes)[n],
         };
         let entry = |(&node, &row): (&u8, &[u8; 2])| Entry {
             node: node as usize,
@@ -155,7 +153,6 @@ impl Records {
             .or_else(|| self.wrong_children())
             .or_else(|| (0..self.table.len()).find_map(|i| self.wrong_entry(i)))
             .or_else(|| (0..self.table.len()).find_map(|i| self.unread_entry(i)))
-            .or_else(|| (0..NODES).find_map(|n| self.wrong_flag(n)))
     }
 
     /// Places that stand free, lowest first.
@@ -186,10 +183,6 @@ impl Records {
 
     pub fn tag(&self, node: usize) -> u16 {
         self.nodes[node].tag
-    }
-
-    pub fn is_released(&self, node: usize) -> bool {
-        self.nodes[node].flag != 0
     }
 
     /// The rows of which a node has its own, rising, and the place of each.
@@ -274,11 +267,12 @@ impl Records {
 
     /// Rule 2 at a node.
     fn wrong_state(&self, n: usize) -> Option<Fault> {
-        let Node {
-            state, parent, tag, ..
-        } = self.nodes[n];
-        let Some(kind) = kind(state) else {
-            return broken(2, STATES + n, format!("node {n} has state {state}"));
+        let Node { state, parent, tag } = self.nodes[n];
+        let kind = match state {
+            EMPTY => "empty",
+            ALIVE => "alive",
+            GHOST => "a ghost",
+            _ => return broken(2, STATES + n, format!("node {n} has state {state}")),
         };
         if n == 0 && state != ALIVE {
             return broken(2, STATES, format!("node 0 is {kind}, not alive"));
@@ -376,28 +370,5 @@ impl Records {
         }
         let what = format!("nobody reads place {place}, row {row} of node {node}");
         broken(7, TABLE + i, what)
-    }
-
-    /// Rule 8 at a node.
-    fn wrong_flag(&self, n: usize) -> Option<Fault> {
-        let Node { state, flag, .. } = self.nodes[n];
-        let what = match (flag, kind(state)) {
-            (0, _) => return None,
-            (1, _) if n == 0 => "node 0 is the origin and has flag 1, not 0".to_string(),
-            (1, _) if state == ALIVE => return None,
-            (1, Some(kind)) => format!("node {n} is {kind} and has flag 1, not 0"),
-            _ => format!("node {n} has flag {flag}"),
-        };
-        broken(8, FLAGS + n, what)
-    }
-}
-
-/// The word for a node of a state.
-fn kind(state: u8) -> Option<&'static str> {
-    match state {
-        EMPTY => Some("empty"),
-        ALIVE => Some("alive"),
-        GHOST => Some("a ghost"),
-        _ => None,
     }
 }

@@ -15,22 +15,18 @@ pub const STATES: usize = PLACES + 2;
 pub const PARENTS: usize = STATES + NODES;
 pub const TAGS: usize = PARENTS + NODES;
 
-/// Where the nodes' flags start, a byte each: 1 at a released version.
-pub const FLAGS: usize = TAGS + 2 * NODES;
-
 /// Where the table starts, and the bytes of an entry: one for its node and two for its row.
-pub const TABLE: usize = FLAGS + NODES;
+pub const TABLE: usize = TAGS + 2 * NODES;
 const ENTRY: usize = 3;
 
 /// Where each part starts, under the first word that docs/LAYOUT.md has for it.
-pub const PARTS: [(&str, usize); 8] = [
+pub const PARTS: [(&str, usize); 7] = [
     ("L", ROWS),
     ("B", WIDTH),
     ("P", PLACES),
     ("state", STATES),
     ("parent", PARENTS),
     ("tag", TAGS),
-    ("flag", FLAGS),
     ("table", TABLE),
 ];
 
@@ -108,11 +104,6 @@ pub fn put_node(records: &mut [u8], node: usize, state: u8, parent: usize, tag: 
     records[STATES + node] = state;
     records[PARENTS + node] = parent as u8;
     put_number(records, TAGS + 2 * node, tag);
-}
-
-/// The nodes' flags.
-pub fn flags(records: &[u8]) -> &[u8] {
-    &records[FLAGS..TABLE]
 }
 
 /// The table's two halves: the nodes and the rows.

@@ -76,7 +76,6 @@ impl Store for Plain {
         let mut tree = Tree::new();
         match tree.seek(records, places.len(), bytes.len(), tag, row) {
             Err(refusal) => refusal,
-            Ok(sought) if is_released(records, tree.node[sought.version].into()) => TAG_RELEASED,
             Ok(mut sought) => tree.write(records, places, &mut sought, bytes),
         }
     }
@@ -106,9 +105,6 @@ impl Store for Plain {
             let Some(node) = node_of(records, tag) else {
                 return (NO_VERSION, 0);
             };
-            if is_released(records, node) {
-                return (TAG_RELEASED, 0);
-            }
             let mut version = tree.rank[node] as usize;
             for (done, (&row, bytes)) in rows.iter().zip(bytes.chunks(width)).enumerate() {
                 let row = row as usize;
@@ -143,29 +139,11 @@ impl Store for Plain {
             let Some(node) = node_of(records, tag) else {
                 return NO_VERSION;
             };
-            if is_released(records, node) {
-                return TAG_RELEASED;
-            }
             let parting = Parting::of(&tree, tree.rank[node] as usize);
             parting.sort_entries(records, &tree, owners);
             parting.change_tree(records, &tree);
             ACCEPTED
         })
-    }
-
-    fn release(records: &mut [u8], tag: u16) -> u8 {
-        let mut tree = Tree::new();
-        if survey(&mut tree, records, NO_ROW).is_none() {
-            return UNSOUND;
-        }
-        if tag == 0 {
-            return ORIGIN_RELEASE;
-        }
-        let Some(node) = node_of(records, tag) else {
-            return NO_VERSION;
-        };
-        records[FLAGS + node] = 1;
-        ACCEPTED
     }
 
     fn count(records: &[u8]) -> (u8, usize, usize) {
@@ -202,7 +180,6 @@ struct Nodes<'a> {
     states: &'a [u8; NODES],
     parents: &'a [u8; NODES],
     tags: &'a [u8; 2 * NODES],
-    flags: &'a [u8; NODES],
 }
 
 impl Nodes<'_> {
@@ -211,7 +188,6 @@ impl Nodes<'_> {
             states: records[STATES..].first_chunk()?,
             parents: records[PARENTS..].first_chunk()?,
             tags: records[TAGS..].first_chunk()?,
-            flags: records[FLAGS..].first_chunk()?,
         })
     }
 
@@ -219,8 +195,8 @@ impl Nodes<'_> {
         number(self.tags, 2 * node)
     }
 
-    /// The living and the ghost nodes, if every state is a state, no empty node has a parent and every
-    /// flag is 0, or 1 at a living node. Eight nodes are looked at together.
+    /// The living and the ghost nodes, if every state is a state and no empty node has a parent.
+    /// Eight nodes are looked at together.
     fn states(&self) -> Option<(u128, u128)> {
         const ONES: u64 = 0x0101_0101_0101_0101;
         // Gathers the lowest bits of eight bytes in one.
@@ -228,14 +204,12 @@ impl Nodes<'_> {
         let (mut living, mut ghosts) = ([0; NODES / 8], [0; NODES / 8]);
         let mut wrong = 0;
         let (states, parents) = (arrays(self.states), arrays(self.parents));
-        let fields = states.iter().zip(parents).zip(arrays(self.flags));
-        for (group, ((states, parents), flags)) in fields.enumerate() {
+        for (group, (states, parents)) in states.iter().zip(parents).enumerate() {
             let states = u64::from_le_bytes(*states);
             let (alive, ghost) = (states & ONES, states >> 1 & ONES);
             let in_use = (alive | ghost) * 255;
             wrong |= states & !(3 * ONES) | alive & ghost;
             wrong |= u64::from_le_bytes(*parents) & !in_use;
-            wrong |= u64::from_le_bytes(*flags) & !alive;
             living[group] = gather(alive);
             ghosts[group] = gather(ghost);
         }
@@ -324,7 +298,7 @@ impl Tree {
         }
     }
 
-    /// Ranks the nodes, if they meet the rules for states, tags, parents, children and flags.
+    /// Ranks the nodes, if they meet the rules for states, tags, parents and children.
     fn fill(&mut self, records: &[u8]) -> Option<()> {
         let nodes = Nodes::of(records)?;
         let (living, ghosts) = nodes.states()?;
@@ -332,7 +306,6 @@ impl Tree {
         let fits = living & 1 == 1
             && nodes.parents[0] == 0
             && nodes.tag(0) == 0
-            && nodes.flags[0] == 0
             && self.snapshots <= MAX_SNAPSHOTS
             && nodes.tags_are_of(self.snapshots)
             && nodes.tags_differ(living & !1);
@@ -739,11 +712,6 @@ fn node_of(records: &[u8], tag: u16) -> Option<usize> {
     let tags = arrays(Nodes::of(records)?.tags);
     let wanted = tag.to_be_bytes();
     find(tags, |tag| tag == wanted)
-}
-
-/// Whether a node's version is released; in sound records a flag is 0 or 1.
-fn is_released(records: &[u8], node: usize) -> bool {
-    records[FLAGS + node] != 0
 }
 
 /// The first empty node. There is one whenever a node is made: the records are sound afterwards,

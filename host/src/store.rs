@@ -1,4 +1,4 @@
-//! The eight calls on lent bytes, and the proved store behind them.
+//! The seven calls on lent bytes, and the proved store behind them.
 
 use crate::layout::Measures;
 
@@ -27,10 +27,6 @@ pub mod answer {
     pub const NO_PLACE: u8 = 24;
     /// A border of more rows than one may have.
     pub const TOO_MANY_ROWS: u8 = 25;
-    /// A released version is neither written nor deleted.
-    pub const TAG_RELEASED: u8 = 26;
-    /// The origin cannot be released.
-    pub const ORIGIN_RELEASE: u8 = 27;
 }
 
 /// The most rows of a border.
@@ -59,8 +55,6 @@ pub trait Store {
     ) -> (u8, usize);
 
     fn delete(records: &mut [u8], tag: u16) -> u8;
-
-    fn release(records: &mut [u8], tag: u16) -> u8;
 
     /// The answer, the places in use and the snapshots alive.
     fn count(records: &[u8]) -> (u8, usize, usize);
@@ -119,7 +113,6 @@ mod linked {
             done: *mut usize,
         ) -> u8;
         fn rowstore_delete(records: *mut u8, records_len: usize, tag: u16) -> u8;
-        fn rowstore_release(records: *mut u8, records_len: usize, tag: u16) -> u8;
         fn rowstore_count(
             records: *const u8,
             records_len: usize,
@@ -187,10 +180,6 @@ mod linked {
 
         fn delete(records: &mut [u8], tag: u16) -> u8 {
             unsafe { rowstore_delete(records.as_mut_ptr(), records.len(), tag) }
-        }
-
-        fn release(records: &mut [u8], tag: u16) -> u8 {
-            unsafe { rowstore_release(records.as_mut_ptr(), records.len(), tag) }
         }
 
         fn count(records: &[u8]) -> (u8, usize, usize) {

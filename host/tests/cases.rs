@@ -3,12 +3,12 @@
 mod common;
 
 use common::calls::{read, Call, Outcome};
-use common::tally::{Tally, REFUSED_RELEASED, RELEASES};
+use common::tally::Tally;
 use common::trial::{Care, Trial};
 use rowstore_host::copies::Copies;
 use rowstore_host::dice::Dice;
 use rowstore_host::judge::place_of;
-use rowstore_host::layout::{Measures, EMPTY, FLAGS, STATES};
+use rowstore_host::layout::{Measures, EMPTY, STATES};
 use rowstore_host::store::Store;
 use std::hint::black_box;
 
@@ -112,7 +112,7 @@ fn usual<S: Store>(title: &str) -> Trial<S> {
 }
 
 fn listed_cases<S: Store>() {
-    let cases: [fn() -> Tally; 21] = [
+    let cases: [fn() -> Tally; 16] = [
         rows_after_opening::<S>,
         sharers_of_rows::<S>,
         refused_reads::<S>,
@@ -129,32 +129,18 @@ fn listed_cases<S: Store>() {
         border_above_a_reader::<S>,
         border_of_equal_bytes::<S>,
         refused_borders::<S>,
-        releases::<S>,
-        released_writes::<S>,
-        released_borders::<S>,
-        released_deletes::<S>,
-        copy_of_a_released_version::<S>,
     ];
     let title = format!("listed cases, {}", S::NAME);
     let tallies = cases.map(|case| case());
-    let answers = [0, 2, 3, 4, 5, 20, 21, 22, 23, 24, 25, 26, 27];
-    require_all(&title, &tallies, &answers);
-    let sum = sum_of(&tallies);
-    sum.require_met(&title, "releases", &RELEASES);
-    sum.require_met(&title, "refused with 26", &REFUSED_RELEASED);
+    require_all(&title, &tallies, &[0, 2, 3, 4, 20, 21, 22, 23, 24, 25]);
 }
 
 /// Prints the tallies together, and requires that all the answers were seen.
 fn require_all(title: &str, tallies: &[Tally], answers: &[u8]) {
-    let sum = sum_of(tallies);
-    sum.print(title);
-    sum.require(title, answers);
-}
-
-fn sum_of(tallies: &[Tally]) -> Tally {
     let mut sum = Tally::default();
     tallies.iter().for_each(|tally| sum.add(tally));
-    sum
+    sum.print(title);
+    sum.require(title, answers);
 }
 
 fn rows_after_opening<S: Store>() -> Tally {
@@ -426,172 +412,6 @@ fn refused_borders<S: Store>() -> Tally {
     trial.tally
 }
 
-/// The origin is never released, a dead version neither; a snapshot is, and a second time changes nothing.
-fn releases<S: Store>() -> Tally {
-    let mut trial = usual::<S>("releases");
-    assert_eq!(trial.release(0), 27);
-    assert_eq!(trial.release(7), 21);
-    assert_eq!(trial.snapshot(0, 7), 0);
-    assert_eq!(trial.snapshot(7, 8), 0);
-    assert_eq!(trial.release(7), 0);
-    let once = trial.records().to_vec();
-    assert_eq!(trial.release(7), 0);
-    assert_eq!(trial.records(), once);
-    // Tag 7 is node 1, and the only one.
-    let flags: Vec<u8> = once[FLAGS..][..3].to_vec();
-    assert_eq!(flags, [0, 1, 0]);
-    assert_eq!(trial.release(0), 27);
-    assert_eq!(trial.delete(8), 0);
-    assert_eq!(trial.release(8), 21);
-    // Records of a wrong length, and of a wrong flag, go before all else.
-    for tag in [0, 7, 8] {
-        trial.misfit(&Call::Release { tag }, USUAL.records_len() - 1);
-        for (node, flag) in [(0, 1), (1, 2), (2, 1)] {
-            let mut unsound = trial.records().to_vec();
-            unsound[FLAGS + node] = flag;
-            let before = unsound.clone();
-            assert_eq!(S::release(&mut unsound, tag), 20);
-            assert_eq!(unsound, before);
-        }
-    }
-    trial.tally
-}
-
-/// Of a full store with the released version 7, which has a row of its own and others that are shared.
-fn released<S: Store>(title: &str) -> Trial<S> {
-    let mut trial = usual::<S>(title);
-    assert_eq!(trial.snapshot(0, 7), 0);
-    assert_eq!(trial.write(7, 0, 0x70), 0);
-    assert_eq!(trial.snapshot(7, 8), 0);
-    assert_eq!(trial.write(8, 0, 0x80), 0);
-    assert_eq!(trial.release(7), 0);
-    assert_eq!(trial.copies.count(), (6, 2));
-    trial
-}
-
-/// The released version reads as it did when it was released, whatever came since.
-fn still_reads<S: Store>(trial: &mut Trial<S>) {
-    for (row, byte) in [0x70, 0, 0, 0].into_iter().enumerate() {
-        assert_eq!(trial.read(7, row).0, 0);
-        assert_eq!(trial.copies.row(7, row), [byte; 8]);
-    }
-}
-
-/// A write tests length, row, tag, release and room, in this order.
-fn released_writes<S: Store>() -> Tally {
-    let mut trial = released::<S>("released writes");
-    // A row of its own, a shared one that would need a place, and the bytes that are there.
-    assert_eq!(trial.write(7, 0, 0x71), 26);
-    assert_eq!(trial.write(7, 1, 0x71), 26);
-    assert_eq!(trial.write(8, 1, 0x71), 24);
-    assert_eq!(trial.write(0, 1, 0x71), 24);
-    assert_eq!(trial.write(7, 0, 0x70), 26);
-    assert_eq!(trial.write(7, 1, 0), 26);
-    assert_eq!(trial.write(8, 1, 0), 0);
-    // No such row, and no such version.
-    assert_eq!(trial.write(7, 4, 0x71), 3);
-    assert_eq!(trial.write(7, usize::MAX, 0x71), 3);
-    assert_eq!(trial.write(9, 4, 0x71), 3);
-    assert_eq!(trial.write(9, 1, 0x71), 21);
-    for (places_len, len) in [(47, 8), (49, 8), (48, 7), (48, 9)] {
-        let refused = Call::Write {
-            tag: 7,
-            row: 4,
-            places_len,
-            bytes: vec![0x71; len],
-        };
-        assert_eq!(trial.call(&refused).answer, 2);
-        trial.misfit(&refused, USUAL.records_len() + 1);
-    }
-    still_reads(&mut trial);
-    // Others are written as before, and where a place is free too.
-    assert_eq!(trial.write(8, 0, 0x81), 0);
-    assert_eq!(trial.delete(8), 0);
-    assert_eq!(trial.write(7, 1, 0x71), 26);
-    assert_eq!(trial.write(0, 1, 0x01), 0);
-    assert_eq!(trial.write(0, 0, 0x02), 0);
-    still_reads(&mut trial);
-    trial.tally
-}
-
-/// A border tests number, lengths, tag and release, in this order, and then its rows.
-fn released_borders<S: Store>() -> Tally {
-    let mut trial = released::<S>("released borders");
-    assert_eq!(trial.border(7, &[]), (26, 0));
-    assert_eq!(trial.border(9, &[]), (21, 0));
-    assert_eq!(trial.border(7, &[(0, 0x71)]), (26, 0));
-    assert_eq!(trial.border(7, &[(0, 0x70), (1, 0)]), (26, 0));
-    assert_eq!(trial.border(7, &[(1, 0x71), (2, 0x72)]), (26, 0));
-    assert_eq!(trial.border(8, &[(1, 0x71), (2, 0x72)]), (24, 0));
-    assert_eq!(trial.border(7, &[(4, 0x74)]), (26, 0));
-    assert_eq!(trial.border(8, &[(4, 0x74)]), (3, 0));
-    assert_eq!(trial.border(9, &[(4, 0x74)]), (21, 0));
-    let more: Vec<(u16, u8)> = (0..65).map(|i| (i % 4, 1)).collect();
-    assert_eq!(trial.border(7, &more), (25, 0));
-    for (rows, refusal) in [(&more[..], 25), (&more[..64], 2)] {
-        let mut refused = trial.border_of(7, rows);
-        if let Call::Border { bytes, .. } = &mut refused {
-            bytes.pop();
-        }
-        assert_eq!(trial.call(&refused), refused.refused(refusal));
-        trial.misfit(&refused, USUAL.records_len() - 1);
-    }
-    still_reads(&mut trial);
-    assert_eq!(trial.border(8, &[(0, 0x81), (0, 0x82)]), (0, 2));
-    assert_eq!(trial.border(0, &[(0, 0x01), (1, 0x01)]), (24, 1));
-    still_reads(&mut trial);
-    trial.tally
-}
-
-/// A delete tests the origin, the tag and the release, in this order.
-fn released_deletes<S: Store>() -> Tally {
-    let mut trial = released::<S>("released deletes");
-    assert_eq!(trial.delete(0), 5);
-    assert_eq!(trial.delete(7), 26);
-    assert_eq!(trial.delete(9), 21);
-    trial.misfit(&Call::Delete { tag: 7 }, USUAL.records_len() - 1);
-    // What hangs on the released version goes, and its place is free again.
-    assert_eq!(trial.delete(8), 0);
-    assert_eq!(trial.delete(7), 26);
-    assert_eq!(trial.copies.count(), (5, 1));
-    still_reads(&mut trial);
-    // The tag stays in use.
-    assert_eq!(trial.snapshot(0, 7), 22);
-    // A snapshot of the same tag as a deleted one is not released.
-    assert_eq!(trial.snapshot(0, 8), 0);
-    assert_eq!(trial.release(8), 0);
-    assert_eq!(trial.delete(8), 26);
-    trial.tally
-}
-
-/// A copy of a released version is not released; what is done to it leaves the released one alone.
-fn copy_of_a_released_version<S: Store>() -> Tally {
-    let measures = Measures { places: 9, ..USUAL };
-    let title = "copy of a released version";
-    let mut trial = Trial::<S>::open(title, measures, Care::Whole);
-    assert_eq!(trial.snapshot(0, 7), 0);
-    assert_eq!(trial.write(7, 0, 0x70), 0);
-    assert_eq!(trial.release(7), 0);
-    assert_eq!(trial.snapshot(7, 8), 0);
-    assert_eq!(trial.read(8, 0), (0, 2));
-    assert_eq!(trial.write(8, 0, 0x80), 0);
-    assert_eq!(trial.write(7, 0, 0x80), 26);
-    assert_eq!(trial.border(8, &[(0, 0x81), (1, 0x81)]), (0, 2));
-    // A copy of the copy, so that 8 leaves a ghost; and the origin's rows move from under the released one.
-    assert_eq!(trial.snapshot(8, 9), 0);
-    assert_eq!(trial.write(8, 0, 0x82), 0);
-    assert_eq!(trial.parsed().ghosts(), 1);
-    assert_eq!(trial.write(0, 1, 0x01), 0);
-    still_reads(&mut trial);
-    assert_eq!(trial.delete(9), 0);
-    assert_eq!(trial.release(8), 0);
-    assert_eq!(trial.delete(8), 26);
-    assert_eq!(trial.snapshot(8, 9), 0);
-    assert_eq!(trial.delete(9), 0);
-    still_reads(&mut trial);
-    trial.tally
-}
-
 /// The example of the program `shelf`, as calls.
 fn printed_example<S: Store>() {
     let mut trial = usual::<S>("printed example");
@@ -773,10 +593,6 @@ fn history_at<S: Store>(measures: Measures, mut buffers: [Lent; 4]) -> usize {
         Call::Delete { tag: 7 },
         write(8, 0, drawn(1)),
         border(8, [0, rows, 1], drawn(BORDER)),
-        Call::Release { tag: 8 },
-        write(8, 0, drawn(1)),
-        border(8, [0, 1, 1], drawn(BORDER)),
-        Call::Delete { tag: 8 },
     ];
     let mut made = 0;
     for step in steps {

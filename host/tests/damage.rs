@@ -8,21 +8,19 @@ use rowstore_host::dice::Dice;
 use rowstore_host::judge::{sound, Records};
 use rowstore_host::layout::*;
 use rowstore_host::store::Store;
-use std::collections::BTreeMap;
 use std::marker::PhantomData;
 
 const LAST_NODE: u8 = NODES as u8 - 1;
 
 const GROWING: Habit = Habit {
     name: "growing",
-    weights: [25, 0, 55, 5, 12, 0, 3],
+    weights: [25, 0, 55, 5, 12, 0],
     highest_tag: 12,
     ..Habit::MIXED
 };
 
 for_each_store!(
     every_byte,
-    every_flag,
     pairs_of_bytes,
     drawn_bytes,
     wrong_lengths,
@@ -71,9 +69,9 @@ impl Sample {
         }
     }
 
-    /// Seven calls, which are good ones or would be refused for other reasons too. Where a store has
+    /// Six calls, which are good ones or would be refused for other reasons too. Where a store has
     /// one row only, the border ends inside.
-    fn calls(&self, bad: bool) -> [Call; 7] {
+    fn calls(&self, bad: bool) -> [Call; 6] {
         let places_len = self.places.len();
         let tag = if bad { 65_000 } else { self.tag };
         let row = if bad { 70_000 } else { 0 };
@@ -104,7 +102,6 @@ impl Sample {
                 bytes: [0xdd, 0xee, 0xdf].repeat(out_len),
             },
             Call::Delete { tag: gone },
-            Call::Release { tag: gone },
             Call::Count,
         ]
     }
@@ -112,7 +109,7 @@ impl Sample {
 
 fn samples<S: Store>() -> Vec<Sample> {
     let many = Habit {
-        weights: [60, 0, 27, 3, 2, 0, 3],
+        weights: [60, 0, 27, 3, 2, 0],
         highest_tag: 120,
         calls: 260,
         ..GROWING
@@ -250,40 +247,6 @@ fn every_byte<S: Store>() {
     findings.end();
 }
 
-/// Every flag with values of every kind: only a living snapshot's may be 1, and none more.
-fn every_flag<S: Store>() {
-    let mut findings = Findings::<S>::new("every flag");
-    let mut met: BTreeMap<(&str, u8), usize> = BTreeMap::new();
-    for sample in &samples::<S>() {
-        let mut records = sample.records.clone();
-        for node in 0..NODES {
-            let kind = match records[STATES + node] {
-                _ if node == 0 => "the origin",
-                EMPTY => "an empty node",
-                GHOST => "a ghost",
-                _ => "a snapshot",
-            };
-            let old = records[FLAGS + node];
-            for flag in [0, 1, 2, 3, 4, 64, LAST_NODE, LAST_NODE + 1, 254, 255] {
-                records[FLAGS + node] = flag;
-                let what = format!("flag of node {node}, {kind}, now {flag}");
-                let got = findings.try_records(format_args!("{what}"), &records, sample);
-                let due = flag == 0 || flag == 1 && kind == "a snapshot";
-                assert_eq!(got, due, "{}: {what}", sample.title);
-                *met.entry((kind, old)).or_default() += 1;
-            }
-            records[FLAGS + node] = old;
-        }
-    }
-    println!("every flag, {}, by node and old flag: {met:?}", S::NAME);
-    let snapshots = [("a snapshot", 0), ("a snapshot", 1)];
-    let others = ["the origin", "an empty node", "a ghost"].map(|kind| (kind, 0));
-    for kind in snapshots.into_iter().chain(others) {
-        assert!(met.contains_key(&kind), "none met: {kind:?}");
-    }
-    findings.end();
-}
-
 /// A byte that is likely to mean something where it is put.
 fn likely_byte(dice: &mut Dice, records: &[u8]) -> u8 {
     match dice.below(4) {
@@ -297,12 +260,11 @@ fn likely_byte(dice: &mut Dice, records: &[u8]) -> u8 {
 /// A position, more often in the head of a used node or in the table.
 fn likely_position(dice: &mut Dice, len: usize) -> usize {
     let node = dice.below(24);
-    match dice.below(6) {
+    match dice.below(5) {
         0 => STATES + node,
         1 => PARENTS + node,
         2 => TAGS + 2 * node + 1,
-        3 => FLAGS + node,
-        4 if len > TABLE => dice.between(TABLE, len - 1),
+        3 if len > TABLE => dice.between(TABLE, len - 1),
         _ => dice.below(len),
     }
 }
@@ -335,7 +297,7 @@ fn pairs_of_bytes<S: Store>() {
     }
     let measures = Measures::of(1024, 1, 4096);
     let filling = Habit {
-        weights: [3, 0, 96, 0, 0, 0, 0],
+        weights: [3, 0, 96, 0, 0, 0],
         highest_tag: 60,
         calls: 4600,
         ..GROWING
@@ -437,7 +399,7 @@ fn put_version(records: &mut [u8], node: u8, ghost: bool, parent: u8, tag: u8) {
     put_node(records, node.into(), state, parent.into(), tag.into());
 }
 
-/// A tree with now and then a wrong parent, ghost, tag, flag or row.
+/// A tree with now and then a wrong parent, ghost, tag or row.
 fn drawn_tree(dice: &mut Dice) -> Sample {
     let (rows, entries) = (dice.between(1, 3), dice.below(7));
     let mut sample = blank(dice, rows, entries);
@@ -459,11 +421,6 @@ fn drawn_tree(dice: &mut Dice) -> Sample {
             dice.below(4)
         };
         put_version(records, node, ghost, parents[i], tag as u8);
-        let released = !ghost && dice.chance(30) || dice.chance(1);
-        records[FLAGS + node as usize] = released.into();
-    }
-    if dice.chance(3) {
-        records[FLAGS + dice.below(12)] = dice.pick(&[1, 2, 255]);
     }
     for entry in 0..entries {
         if !nodes.is_empty() && dice.chance(75) {

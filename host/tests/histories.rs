@@ -3,7 +3,7 @@
 mod common;
 
 use common::calls::{read, Habit, Source};
-use common::tally::{Tally, REFUSED_RELEASED, RELEASES};
+use common::tally::Tally;
 use common::trial::{Care, Trial};
 use rowstore_host::dice::Dice;
 use rowstore_host::layout::Measures;
@@ -17,28 +17,28 @@ const HABITS: [Habit; 5] = [
     Habit::MIXED,
     Habit {
         name: "deep",
-        weights: [30, 5, 40, 10, 15, 5, 3],
+        weights: [30, 5, 40, 10, 15, 5],
         source: Source::Latest,
         highest_tag: 14,
         ..Habit::MIXED
     },
     Habit {
         name: "wide",
-        weights: [30, 5, 40, 10, 20, 5, 3],
+        weights: [30, 5, 40, 10, 20, 5],
         source: Source::Origin,
         highest_tag: 12,
         ..Habit::MIXED
     },
     Habit {
         name: "pruned",
-        weights: [25, 3, 40, 10, 30, 2, 1],
+        weights: [25, 3, 40, 10, 30, 2],
         highest_tag: 7,
         calls: 150,
         ..Habit::MIXED
     },
     Habit {
         name: "written",
-        weights: [10, 5, 65, 20, 5, 5, 3],
+        weights: [10, 5, 65, 20, 5, 5],
         highest_tag: 6,
         ..Habit::MIXED
     },
@@ -47,7 +47,7 @@ const HABITS: [Habit; 5] = [
 /// Tries to go beyond 64 snapshots.
 const MANY: Habit = Habit {
     name: "many",
-    weights: [60, 5, 27, 5, 3, 5, 2],
+    weights: [60, 5, 27, 5, 3, 5],
     highest_tag: 99,
     calls: 220,
     ..Habit::MIXED
@@ -104,7 +104,7 @@ const BORDERS: [&str; 16] = [
     "65 rows of a wrong length",
 ];
 
-const REFUSALS: [u8; 12] = [2, 3, 4, 5, 20, 21, 22, 23, 24, 25, 26, 27];
+const REFUSALS: [u8; 10] = [2, 3, 4, 5, 20, 21, 22, 23, 24, 25];
 
 for_each_store!(small_stores, large_stores, deep_chains, shared_by_all);
 
@@ -137,8 +137,6 @@ fn small_stores<S: Store>() {
     tally.require_met(&title, "reads", &READS);
     tally.require_met(&title, "equal bytes written", &EQUAL_WRITES);
     tally.require_met(&title, "borders", &BORDERS);
-    tally.require_met(&title, "releases", &RELEASES);
-    tally.require_met(&title, "refused with 26", &REFUSED_RELEASED);
     assert!(tally.snapshots == 64 && tally.ghosts >= 4, "{title}");
 }
 
@@ -156,7 +154,7 @@ fn large_stores<S: Store>() {
         let measures = Measures::of(rows, width, places);
         let mut dice = Dice::new(seed as u64);
         let habit = Habit {
-            weights: [14, 3, 78, 6, 3, 2, 1],
+            weights: [14, 3, 78, 6, 3, 2],
             calls,
             ..MANY
         };
@@ -177,8 +175,6 @@ fn large_stores<S: Store>() {
     tally.require_met(&title, "reads", &READS);
     tally.require_met(&title, "equal bytes written", &EQUAL_WRITES);
     tally.require_met(&title, "borders", &BORDERS[..15]);
-    tally.require_met(&title, "releases", &RELEASES);
-    tally.require_met(&title, "refused with 26", &["delete", "write", "border"]);
     assert!(tally.snapshots == 64 && tally.full > 0, "{title}");
 }
 

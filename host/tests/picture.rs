@@ -70,52 +70,29 @@ fn between<'a>(line: &'a str, before: &str, behind: &str) -> Option<&'a str> {
     Some(rest.split_once(behind)?.0)
 }
 
-/// By tag the places that the text says a deletion would free, whose number it tells too; none if it says that the version
-/// is released, and so is not deleted.
-fn frees_told(text: &str) -> BTreeMap<u16, Option<Vec<usize>>> {
+/// By tag the number of places that the text says a deletion would free, and these places.
+fn frees_told(text: &str) -> BTreeMap<u16, Vec<usize>> {
     let mut told = BTreeMap::new();
     for line in part(text, "versions") {
-        let Some(name) = between(line, "tag ", " (node") else {
+        let Some(tag) = between(line, "tag ", " (node") else {
             continue;
         };
-        let deletion = line.split_once("its deletion frees ");
-        let (tag, places) = match (name.strip_suffix(", released"), deletion) {
-            (Some(tag), None) => (tag, None),
-            (None, Some((_, freed))) => (name, Some(places_told(freed))),
-            _ => panic!("{line}"),
+        let (_, freed) = line
+            .split_once("its deletion frees ")
+            .expect("what is freed");
+        let places = match freed.split_once(": ") {
+            None => Vec::new(),
+            Some((count, places)) => {
+                let places = numbers(places);
+                let count = count.split(' ').next().expect("a count");
+                assert_eq!(count, places.len().to_string(), "{line}");
+                places
+            }
         };
         let again = told.insert(tag.parse().expect("a tag"), places);
         assert!(again.is_none(), "{line}");
     }
     told
-}
-
-/// The places of "2 places: 4, 6", or of "nothing".
-fn places_told(freed: &str) -> Vec<usize> {
-    let Some((count, places)) = freed.split_once(": ") else {
-        return Vec::new();
-    };
-    let places = numbers(places);
-    let count = count.split(' ').next().expect("a count");
-    assert_eq!(count, places.len().to_string(), "{freed}");
-    places
-}
-
-/// The tags whose boxes have a thick outline; only these boxes say that their version is released.
-fn released_drawn(svg: &str) -> Vec<u16> {
-    let mut tags = Vec::new();
-    for line in svg.lines().filter(|line| line.contains(", node ")) {
-        let released = line.contains("; released</title>");
-        assert_eq!(line.contains(r#" stroke-width="3""#), released, "{line}");
-        if released {
-            let tag = between(line, "<title>tag ", ", node ").expect("a tag");
-            tags.push(tag.parse().expect("a tag"));
-        }
-    }
-    tags.sort();
-    let said = svg.matches(", released</text>").count();
-    assert_eq!(said, tags.len());
-    tags
 }
 
 /// By row the groups of tags that the text says share it.
@@ -179,7 +156,6 @@ struct Compared {
     stores: usize,
     deletions: usize,
     freeing: usize,
-    released: usize,
     pairs: usize,
     ghosts: usize,
     full: usize,
@@ -197,21 +173,11 @@ fn compare<S: Store>(title: &str, trial: &Trial<S>, compared: &mut Compared) {
     let told = frees_told(&words);
     let tags: Vec<u16> = told.keys().copied().collect();
     assert_eq!(tags, trial.copies.tags()[1..], "{title}");
-    let mut released = Vec::new();
     for (tag, places) in told {
-        let Some(places) = places else {
-            released.push(tag);
-            continue;
-        };
         compare_deletion(title, trial, tag, &places);
         compared.deletions += 1;
         compared.freeing += usize::from(!places.is_empty());
     }
-    let mut due = trial.copies.tags();
-    due.retain(|&tag| trial.copies.released(tag));
-    assert_eq!(released, due, "{title}");
-    assert_eq!(released_drawn(&drawn), due, "{title}");
-    compared.released += released.len();
     compared.stores += 1;
     compared.ghosts = compared.ghosts.max(picture.ghosts());
     compared.full += usize::from(picture.free_places().is_empty());
@@ -322,7 +288,7 @@ fn drawn_stores<S: Store>() {
         let mut dice = Dice::new(seed);
         let source = dice.pick(&[Source::Any, Source::Latest, Source::Origin]);
         let habit = Habit {
-            weights: [25, 0, 50, 5, dice.pick(&[2, 10, 20]), 0, dice.pick(&[0, 4])],
+            weights: [25, 0, 50, 5, dice.pick(&[2, 10, 20]), 0],
             source,
             highest_tag: dice.pick(&[6, 14, 99]),
             calls: dice.pick(&[0, 30, 120, 220]),
@@ -340,15 +306,14 @@ fn drawn_stores<S: Store>() {
         stores,
         deletions,
         freeing,
-        released,
         pairs,
         ghosts,
         full,
     } = compared;
     println!("pictures, {}, seeds 0 to {}:", S::NAME, SEEDS - 1);
     println!("  {stores} stores, {full} of them full, {ghosts} ghosts at most, {pairs} pairs");
-    println!("  {deletions} deletions told, {freeing} of them free places; {released} released");
-    assert!(full > 0 && ghosts > 3 && freeing > 0 && freeing < deletions && released > 0);
+    println!("  {deletions} deletions told, {freeing} of them free places");
+    assert!(full > 0 && ghosts > 3 && freeing > 0 && freeing < deletions);
 }
 
 #[test]
@@ -386,30 +351,6 @@ fn the_example_is_the_one_that_is_drawn() {
     assert!(drawn == kept, "docs/store.svg is not the example's picture");
 }
 
-/// Released, tag 7 is told so, and what its deletion would free is told no longer; nothing else changes.
-#[test]
-fn a_released_version_is_told_and_drawn() {
-    let mut records = example();
-    records[FLAGS + 3] = 1;
-    let (before, after) = (picture_of(&example()), picture_of(&records));
-    let mut lines: Vec<(String, String)> = Vec::new();
-    let (old, new) = (text(&before, None), text(&after, None));
-    for (old, new) in old.lines().zip(new.lines()) {
-        // The names' column is wider now.
-        let words = |line: &str| line.split_whitespace().collect::<Vec<_>>().join(" ");
-        if words(old) != words(new) {
-            lines.push((words(old), words(new)));
-        }
-    }
-    let due = (
-        "├─ tag 7 (node 3) own row 2; its deletion frees nothing".to_string(),
-        "├─ tag 7, released (node 3) own row 2".to_string(),
-    );
-    assert_eq!(lines, [due]);
-    assert_eq!(released_drawn(&svg(&before)), []);
-    assert_eq!(released_drawn(&svg(&after)), [7]);
-}
-
 /// What is said of the example with a byte altered, for each rule.
 #[test]
 fn damage_is_named() {
@@ -422,7 +363,7 @@ fn damage_is_named() {
         (
             PLACES + 1,
             9,
-            "rule 1: the length is 658, not 661 as for L 4 and P 9",
+            "rule 1: the length is 530, not 533 as for L 4 and P 9",
         ),
         (STATES + 5, 3, "rule 2: node 5 has state 3 (byte 11)"),
         (STATES, 2, "rule 2: node 0 is a ghost, not alive (byte 6)"),
@@ -484,41 +425,24 @@ fn damage_is_named() {
         (
             row_of(1),
             1,
-            "rule 6: place 5 is free and has row 1 (byte 652)",
+            "rule 6: place 5 is free and has row 1 (byte 524)",
         ),
         (
             TABLE + 1,
             9,
-            "rule 6: place 5 is for node 9, which is not in use (byte 647)",
+            "rule 6: place 5 is for node 9, which is not in use (byte 519)",
         ),
-        (row_of(3), 4, "rule 6: place 7 has row 4 of 4 (byte 656)"),
+        (row_of(3), 4, "rule 6: place 7 has row 4 of 4 (byte 528)"),
         (
             TABLE + 2,
             1,
-            "rule 6: places 4 and 6 both have row 2 of node 1 (byte 648)",
+            "rule 6: places 4 and 6 both have row 2 of node 1 (byte 520)",
         ),
         (
             row_of(3),
             2,
-            "rule 7: nobody reads place 4, row 2 of node 1 (byte 646)",
+            "rule 7: nobody reads place 4, row 2 of node 1 (byte 518)",
         ),
-        (
-            FLAGS,
-            1,
-            "rule 8: node 0 is the origin and has flag 1, not 0 (byte 518)",
-        ),
-        (
-            FLAGS + 1,
-            1,
-            "rule 8: node 1 is a ghost and has flag 1, not 0 (byte 519)",
-        ),
-        (
-            FLAGS + 5,
-            1,
-            "rule 8: node 5 is empty and has flag 1, not 0 (byte 523)",
-        ),
-        (FLAGS + 3, 2, "rule 8: node 3 has flag 2 (byte 521)"),
-        (FLAGS + 127, 255, "rule 8: node 127 has flag 255 (byte 645)"),
     ];
     for (at, value, due) in cases {
         let mut records = example();
@@ -529,7 +453,7 @@ fn damage_is_named() {
     let short = fault(&example()[..500]).map(|fault| fault.to_string());
     assert_eq!(
         short.as_deref(),
-        Some("rule 1: the length is 500, and the table starts at 646")
+        Some("rule 1: the length is 500, and the table starts at 518")
     );
     let mut many = vec![0; Measures::of(1, 1, 1).records_len()];
     Measures::of(1, 1, 1).put(&mut many);

@@ -46,7 +46,7 @@ impl<'a> Reader<'a> {
         let operands = match kind {
             1 | 2 => 4,
             3 => 4 + SHELF.width,
-            4 | 6 => 2,
+            4 => 2,
             5 => 0,
             _ => return Some(Err(6)),
         };
@@ -88,8 +88,7 @@ impl Seen {
 
     fn write(&mut self, copies: &Copies, tag: u16, row: usize, bytes: &[u8]) {
         let known = copies.tags().contains(&tag) && row < SHELF.rows;
-        let taken = known && !copies.released(tag);
-        if taken && copies.shared(tag, row) && copies.row(tag, row) == bytes {
+        if known && copies.shared(tag, row) && copies.row(tag, row) == bytes {
             let full = copies.count().0 == SHELF.places;
             self.equal += usize::from(!full);
             self.equal_when_full += usize::from(full);
@@ -122,7 +121,6 @@ fn answered(copies: &mut Copies, kind: u8, operands: &[u8], seen: &mut Seen) -> 
             (copies.write(PLACES_LEN, tag, row, bytes), dash)
         }
         4 => (copies.delete(number(operands)), dash),
-        6 => (copies.release(number(operands)), dash),
         _ => {
             let (used, snapshots) = copies.count();
             (0, format!("{used} {snapshots}"))
@@ -157,10 +155,7 @@ fn due(stream: &[u8], seen: &mut Seen) -> Vec<u8> {
 
 /// A drawn command: few tags and rows, now and then ones that do not exist.
 fn command(dice: &mut Dice, stream: &mut Vec<u8>) {
-    let kind = match dice.chance(4) {
-        true => 6,
-        false => dice.pick(&[1u8, 2, 2, 3, 3, 3, 4, 5]),
-    };
+    let kind = dice.pick(&[1u8, 2, 2, 3, 3, 3, 4, 5]);
     stream.push(kind);
     let tag = |dice: &mut Dice| dice.pick(&[0u16, 0, 1, 2, 3, 258, 4660]).to_be_bytes();
     let row = |dice: &mut Dice| {
@@ -180,7 +175,7 @@ fn command(dice: &mut Dice, stream: &mut Vec<u8>) {
             };
             stream.extend(bytes);
         }
-        4 | 6 => stream.extend(tag(dice)),
+        4 => stream.extend(tag(dice)),
         _ => {}
     }
 }
@@ -193,7 +188,7 @@ fn stream(dice: &mut Dice) -> Vec<u8> {
     }
     match dice.below(9) {
         0 => bytes.truncate(dice.below(bytes.len() + 1)),
-        1 => bytes.push(dice.pick(&[0u8, 7, 255])),
+        1 => bytes.push(dice.pick(&[0u8, 6, 255])),
         2 => {
             let len = dice.below(40);
             bytes = dice.bytes(len);
@@ -222,7 +217,7 @@ fn drawn_streams() {
         let bytes = stream(&mut Dice::new(seed));
         compare(&bytes, &format!("seed {seed}"), &mut seen);
     }
-    for answer in [0, 3, 4, 5, 6, 7, 21, 22, 24, 26, 27] {
+    for answer in [0, 3, 4, 5, 6, 7, 21, 22, 24] {
         let met = seen.answers.contains_key(&answer);
         assert!(met, "no answer {answer} in {seen:?}");
     }
@@ -247,57 +242,6 @@ fn lengths_of_streams() {
     compare(&rows, "only reads", &mut seen);
     assert!(seen.answers[&8] == 3 && seen.answers[&0] > 8000, "{seen:?}");
     println!("lengths of streams: {seen:?}");
-}
-
-/// A release, what it refuses afterwards, and what it does not.
-#[test]
-fn releases_in_streams() {
-    let release = |tag: u8| vec![6, 0, tag];
-    let snapshot = |source: u8, tag: u8| vec![1, 0, source, 0, tag];
-    let write = |tag: u8, byte: u8| [&[3, 0, tag, 0, 2][..], &[byte; SHELF.width]].concat();
-    let read = |tag: u8| vec![2, 0, tag, 0, 2];
-    let delete = |tag: u8| vec![4, 0, tag];
-    let commands = [
-        (release(0), "27 -"),
-        (release(1), "21 -"),
-        (snapshot(0, 1), "0 -"),
-        (write(1, 0x11), "0 -"),
-        (release(1), "0 -"),
-        (release(1), "0 -"),
-        (write(1, 0x12), "26 -"),
-        (write(1, 0x11), "26 -"),
-        (delete(1), "26 -"),
-        (snapshot(1, 2), "0 -"),
-        (write(2, 0x22), "0 -"),
-        (read(1), "0 1111111111111111 1"),
-        (read(2), "0 2222222222222222 1"),
-        (delete(2), "0 -"),
-        (vec![5], "0 5 1"),
-    ];
-    let (mut stream, mut due) = (Vec::new(), String::new());
-    for (number, (command, answer)) in commands.into_iter().enumerate() {
-        stream.extend(command);
-        due += &format!("{} {answer}\n", number + 1);
-    }
-    assert_eq!(String::from_utf8_lossy(&printed(&stream)), due);
-    compare(&stream, "releases", &mut Seen::default());
-}
-
-/// Each command cut short, and every number that is no command.
-#[test]
-fn commands_cut_and_unknown() {
-    let mut seen = Seen::default();
-    for (kind, operands) in [(1, 4), (2, 4), (3, 12), (4, 2), (6, 2)] {
-        for len in 0..operands {
-            let cut = [&[5, kind][..], &vec![0; len]].concat();
-            compare(&cut, "a command that is cut", &mut seen);
-        }
-    }
-    for unknown in [0].into_iter().chain(7..=255) {
-        compare(&[5, unknown, 5], "no command", &mut seen);
-    }
-    assert_eq!(seen.answers, BTreeMap::from([(0, 274), (6, 250), (7, 24)]));
-    println!("commands cut and unknown: {seen:?}");
 }
 
 /// Snapshots up to the last that is accepted, with a read after each, and one more of both.

@@ -1,5 +1,5 @@
 -- What a call does to a store seen as a place map, and when the map agrees with the reference model. Definitions only. Assumes nothing.
-use Rattle.std.specs.Prelude.{◌≡◌, List, [], ℕ}
+use Rattle.std.specs.Prelude.{◌≡◌, List, ℕ}
 use Rattle.std.proofs.Math.Option.{Option}
 use Rattle.measures.specs.declared.Size.{Size}
 use Rattle.answers.specs.Answers.{Refusal, Answer, refused_of}
@@ -21,9 +21,9 @@ module _ (z : Size) where
   Effect m (delete t) m' = Alike z.rows m' (left t m)
   Effect m count m' = Alike z.rows m' m
 
-  -- the verdict and the answer of a call on the map: the reference model's tests, with places for marks, and nothing released
+  -- the verdict and the answer of a call on the map: the reference model's tests, with places for marks
   unfoldable pub map_verdict : RowMap → Single → Option Refusal
-  map_verdict m c = refusal (tests z m.tags m.place (λ d. m.content (m.place d)) [] c)
+  map_verdict m c = refusal (tests z m.tags m.place (λ d. m.content (m.place d)) c)
 
   unfoldable pub map_answer : RowMap → Single → Answer
   map_answer m c = unless (map_verdict m c) (refused_of (gives (one c))) (accepted z m.tags m.place (λ d. m.content (m.place d)) c)
@@ -33,7 +33,6 @@ module _ (z : Size) where
     pub says : a ≡ map_answer m c
     pub goes : unless (map_verdict m c) (λ r. Alike z.rows m' m) (Effect m c m')
 
-  -- The agreement of a map with the reference model, where nothing is released
+  -- The agreement of a map with the reference model
   pub record Agree (m : RowMap) (s : Model) : Type 0 where
     pub rows : Mirrors z.rows m s.snapshots s.rows
-    pub unreleased : s.released ≡ []

@@ -1,5 +1,5 @@
 -- One thing done: the answer is the model's, and agreement is kept; and where it begins. Assumes nothing.
-use Rattle.std.specs.Prelude.{◌≡◌, [], ℕ, ◌<◌, replicate}
+use Rattle.std.specs.Prelude.{◌≡◌, ℕ, ◌<◌, replicate}
 use Rattle.std.proofs.Math.Path.{refl}
 use Rattle.std.proofs.Common.{◌∙◌}
 use Rattle.std.proofs.Math.Option.{Option, none, some}
@@ -18,15 +18,15 @@ use Rattle.agreement.specs.Verdicts.{snapshot_passed, write_passed, delete_passe
 
 -- the agreement sees of a map only the living rows
 pub alike_agree : (z : Size) {m m' : RowMap} {s : Model} → Agree z m s → Alike z.rows m' m → Agree z m' s
-alike_agree z a k = record { rows = alike_keeps z.rows a.rows k; unreleased = a.unreleased }
+alike_agree z a k = record { rows = alike_keeps z.rows a.rows k }
 
 module _ (z : Size) {m : RowMap} {s : Model} (a : Agree z m s) where
   effect_agree : (c : Single) {m' : RowMap} → verdict z s c ≡ none → Effect z m c m' → Agree z m' (effect s c)
   unfolding verdict Effect effect
-  effect_agree (snapshot u t) e k = record { rows = alike_keeps z.rows (snapshot_keeps z.rows a.rows u t (snapshot_passed z s.snapshots s.rows.mark s.rows.content s.released u t e)) k; unreleased = a.unreleased }
+  effect_agree (snapshot u t) e k = record { rows = alike_keeps z.rows (snapshot_keeps z.rows a.rows u t (snapshot_passed z s.snapshots s.rows.mark s.rows.content u t e)) k }
   effect_agree (read t r) e k = alike_agree z a k
-  effect_agree (write t r bs) e k = record { rows = save_keeps z.rows a.rows equal equal_refl equal_true t r bs (write_passed z s.snapshots s.rows.mark s.rows.content s.released t r bs e) k; unreleased = a.unreleased }
-  effect_agree (delete t) e k = record { rows = alike_keeps z.rows (delete_keeps z.rows a.rows t (delete_passed z s.snapshots s.rows.mark s.rows.content s.released t e)) k; unreleased = a.unreleased }
+  effect_agree (write t r bs) e k = record { rows = save_keeps z.rows a.rows equal equal_refl equal_true t r bs (write_passed z s.snapshots s.rows.mark s.rows.content t r bs e) k }
+  effect_agree (delete t) e k = record { rows = alike_keeps z.rows (delete_keeps z.rows a.rows t (delete_passed z s.snapshots s.rows.mark s.rows.content t e)) k }
   effect_agree count e k = alike_agree z a k
 
   -- accepted or refused
@@ -45,10 +45,10 @@ module _ (z : Size) {m : RowMap} {s : Model} (a : Agree z m s) where
 -- where it begins: with the opened model, and, of any map whose rows keep apart, with the model that has its places for marks
 pub first_agree : (z : Size) → Agree z (first_map (replicate z.width 0)) (opened z)
 unfolding opened
-first_agree z = record { rows = first_mirrors z.rows (replicate z.width 0); unreleased = refl }
+first_agree z = record { rows = first_mirrors z.rows (replicate z.width 0) }
 
 pub start_agree : (z : Size) (m : RowMap) → ((c : Cell) → Live z.rows m.tags c → m.place c < z.places)
     → ((a b : Cell) → Live z.rows m.tags a → Live z.rows m.tags b → m.place a ≡ m.place b → a.1 ≡ b.1)
     → ((r : ℕ) → r < z.rows → m.place (0, r) ≡ r)
-    → Agree z m (record { snapshots = m.tags; rows = record { content = λ c. m.content (m.place c); mark = m.place; next = z.places }; released = [] })
-start_agree z m low rows home = record { rows = start_mirrors z.rows m z.places low rows home; unreleased = refl }
+    → Agree z m (record { snapshots = m.tags; rows = record { content = λ c. m.content (m.place c); mark = m.place; next = z.places } })
+start_agree z m low rows home = record { rows = start_mirrors z.rows m z.places low rows home }

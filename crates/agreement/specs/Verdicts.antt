@@ -33,22 +33,22 @@ none_passed (t ∷ ts) e = go t.0 refl e (none_passed ts)
     go true k x f = let z : ◌≡◌ {A = ℕ} 0 1 = cc in absurd (omega arith)
     go false k x f = (k, f x)
 
-module _ (z : Size) (tags : List ℕ) (f : Cell → ℕ) (g : Cell → List ℕ) (h : List ℕ) where
-  pub snapshot_passed : (s t : ℕ) → refusal (tests z tags f g h (snapshot s t)) ≡ none → (t ≢ 0) × (alive tags s ≡ true)
+module _ (z : Size) (tags : List ℕ) (f : Cell → ℕ) (g : Cell → List ℕ) where
+  pub snapshot_passed : (s t : ℕ) → refusal (tests z tags f g (snapshot s t)) ≡ none → (t ≢ 0) × (alive tags s ≡ true)
   unfolding tests
-  snapshot_passed s t e = let p = none_passed (tests z tags f g h (snapshot s t)) e in (eqb-false t 0 p.0, not-false _ p.1.0)
+  snapshot_passed s t e = let p = none_passed (tests z tags f g (snapshot s t)) e in (eqb-false t 0 p.0, not-false _ p.1.0)
 
-  pub read_passed : (t r : ℕ) → refusal (tests z tags f g h (read t r)) ≡ none → Live z.rows tags (t, r)
+  pub read_passed : (t r : ℕ) → refusal (tests z tags f g (read t r)) ≡ none → Live z.rows tags (t, r)
   unfolding tests
-  read_passed t r e = let p = none_passed (tests z tags f g h (read t r)) e in (not-false _ p.1.0, leb-false _ _ p.0)
+  read_passed t r e = let p = none_passed (tests z tags f g (read t r)) e in (not-false _ p.1.0, leb-false _ _ p.0)
 
-  pub write_passed : (t r : ℕ) (bs : List ℕ) → refusal (tests z tags f g h (write t r bs)) ≡ none → Live z.rows tags (t, r)
+  pub write_passed : (t r : ℕ) (bs : List ℕ) → refusal (tests z tags f g (write t r bs)) ≡ none → Live z.rows tags (t, r)
   unfolding tests
-  write_passed t r bs e = let p = none_passed (tests z tags f g h (write t r bs)) e in (not-false _ p.1.1.0, leb-false _ _ p.1.0)
+  write_passed t r bs e = let p = none_passed (tests z tags f g (write t r bs)) e in (not-false _ p.1.1.0, leb-false _ _ p.1.0)
 
-  pub delete_passed : (t : ℕ) → refusal (tests z tags f g h (delete t)) ≡ none → t ≢ 0
+  pub delete_passed : (t : ℕ) → refusal (tests z tags f g (delete t)) ≡ none → t ≢ 0
   unfolding tests
-  delete_passed t e = eqb-false t 0 (none_passed (tests z tags f g h (delete t)) e).0
+  delete_passed t e = eqb-false t 0 (none_passed (tests z tags f g (delete t)) e).0
 
 module _ (z : Size) {m : RowMap} {s : Model} (a : Agree z m s) where
   living_same : (t : ℕ) → alive m.tags t ≡ alive s.snapshots t
@@ -61,18 +61,18 @@ module _ (z : Size) {m : RowMap} {s : Model} (a : Agree z m s) where
   unfolding map_verdict verdict tests
   verdict_same (snapshot u t) = rw (living_same u, living_same t, snapshots_same)
   verdict_same (read t r) = rw (living_same t)
-  verdict_same (write t r bs) = rw (living_same t, a.unreleased) (refusal_same _ _ _ _ (λ o. refusal_same _ _ _ _ (λ l. refusal_same _ _ _ _ (λ h. refusal_same _ _ _ _ (λ n.
+  verdict_same (write t r bs) = rw (living_same t) (refusal_same _ _ _ _ (λ o. refusal_same _ _ _ _ (λ l. refusal_same _ _ _ _ (λ h.
       let l' : Live z.rows s.snapshots (t, r) = (not-false _ h, leb-false _ _ l) in
       ap₂ (λ (x : Bool × ℕ) (bytes : List ℕ). refusal ((x.0 && leb z.places x.1 && not (equal bs bytes), places_full) ∷ []))
-      (ap₂ (λ (x : Bool) (n : ℕ). (x, n)) (shared_same z.rows a.rows t r l') (used_same z.rows a.rows)) (a.rows.content (t, r) l'))))))
-  verdict_same (delete t) = rw (living_same t, a.unreleased)
+      (ap₂ (λ (x : Bool) (n : ℕ). (x, n)) (shared_same z.rows a.rows t r l') (used_same z.rows a.rows)) (a.rows.content (t, r) l')))))
+  verdict_same (delete t) = rw (living_same t)
   verdict_same count = refl
 
   accepted_same : (c : Single) → verdict z s c ≡ none → accepted z m.tags m.place (λ d. m.content (m.place d)) c ≡ accepted z s.snapshots s.rows.mark s.rows.content c
   unfolding accepted verdict
   accepted_same (snapshot u t) e = refl
   accepted_same (read t r) e =
-      let l = read_passed z s.snapshots s.rows.mark s.rows.content s.released t r e in
+      let l = read_passed z s.snapshots s.rows.mark s.rows.content t r e in
       ap₂ row (a.rows.content (t, r) l) (sharers_same z.rows a.rows t r l)
   accepted_same (write t r bs) e = refl
   accepted_same (delete t) e = refl

@@ -4,7 +4,7 @@ use Rattle.std.specs.Prelude.{List, [], ◌∷◌, ℕ, replicate}
 pub data Refusal : Type 0 where
   bad_size bad_length bad_row zero_tag origin_tag : Refusal
   unknown_command cut_command long_stream : Refusal
-  unsound unknown_tag tag_alive snapshots_full places_full too_many_rows tag_released origin_release : Refusal
+  unsound unknown_tag tag_alive snapshots_full places_full too_many_rows : Refusal
 
 abbrev pub number : Refusal → ℕ
 number bad_size = 1
@@ -21,8 +21,6 @@ number tag_alive = 22
 number snapshots_full = 23
 number places_full = 24
 number too_many_rows = 25
-number tag_released = 26
-number origin_release = 27
 
 -- What a caller is handed: a number, the bytes of a row (else none), and the numbers that the call gives beside, each 0 if it is refused
 pub record Answer : Type 0 where

@@ -1,12 +1,12 @@
 -- Laws of tests in a row: one that holds refuses, one that does not is passed over; and no refusal has the number 0. Assumes nothing.
-use Rattle.std.specs.Prelude.{◌≡◌, refl, Bool, true, false, ◌&&◌, [], ◌∷◌, ◌++◌, ℕ, ◌≤◌, leb}
+use Rattle.std.specs.Prelude.{◌≡◌, refl, Bool, true, false, ◌&&◌, [], ◌∷◌, ℕ, ◌≤◌, leb}
 use Rattle.std.proofs.Common.{ap, arith, leb-true, le-leb}
 use Rattle.std.proofs.Math.Option.{Option, none, some}
 use Rattle.basics.specs.Decide.{and_yes, both}
 use Rattle.measures.specs.declared.Size.{Size}
 use Rattle.measures.specs.Measures.{Within}
-use Rattle.answers.specs.Answers.{Refusal, bad_size, bad_length, bad_row, zero_tag, origin_tag, unknown_command, cut_command, long_stream, unsound, unknown_tag, tag_alive, snapshots_full, places_full, too_many_rows, tag_released, origin_release, number, handed, done, refused}
-use Rattle.answers.specs.Tests.{Tests, or_else, refusal, unless, verdict_number, in_measure}
+use Rattle.answers.specs.Answers.{Refusal, bad_size, bad_length, bad_row, zero_tag, origin_tag, unknown_command, cut_command, long_stream, unsound, unknown_tag, tag_alive, snapshots_full, places_full, too_many_rows, number, handed, done, refused}
+use Rattle.answers.specs.Tests.{Tests, refusal, unless, verdict_number, in_measure}
 
 pub refusal_here : {b : Bool} (r : Refusal) (ts : Tests) → b ≡ true → refusal ((b, r) ∷ ts) ≡ some r
 unfolding refusal
@@ -52,37 +52,12 @@ number_some tag_alive e = omega (arith, e)
 number_some snapshots_full e = omega (arith, e)
 number_some places_full e = omega (arith, e)
 number_some too_many_rows e = omega (arith, e)
-number_some tag_released e = omega (arith, e)
-number_some origin_release e = omega (arith, e)
 
 -- later tests may be compared as if the earlier ones did not hold
 pub refusal_same : (b : Bool) (r : Refusal) (ts us : Tests) → (b ≡ false → refusal ts ≡ refusal us) → refusal ((b, r) ∷ ts) ≡ refusal ((b, r) ∷ us)
 unfolding refusal
 refusal_same true r ts us h = refl
 refusal_same false r ts us h = h refl
-
--- a further test behind others: where these tests decide alike without it, they do with it; and one that does not hold changes nothing
-pub refusal_inserted : (front : Tests) (b : Bool) (r : Refusal) (ts us : Tests) → refusal (front ++ ts) ≡ refusal (front ++ us) → refusal (front ++ ((b, r) ∷ ts)) ≡ refusal (front ++ ((b, r) ∷ us))
-unfolding refusal
-refusal_inserted [] true r ts us e = refl
-refusal_inserted [] false r ts us e = e
-refusal_inserted (t ∷ front) b r ts us e = go t.0 e (refusal_inserted front b r ts us)
-  where
-    go : (c : Bool) → or_else c t.1 (refusal (front ++ ts)) ≡ or_else c t.1 (refusal (front ++ us))
-        → (refusal (front ++ ts) ≡ refusal (front ++ us) → refusal (front ++ ((b, r) ∷ ts)) ≡ refusal (front ++ ((b, r) ∷ us)))
-        → or_else c t.1 (refusal (front ++ ((b, r) ∷ ts))) ≡ or_else c t.1 (refusal (front ++ ((b, r) ∷ us)))
-    go true h f = refl
-    go false h f = f h
-
-pub refusal_skipped : (front : Tests) {b : Bool} (r : Refusal) (ts : Tests) → b ≡ false → refusal (front ++ ((b, r) ∷ ts)) ≡ refusal (front ++ ts)
-unfolding refusal
-refusal_skipped [] r ts e = rw e
-refusal_skipped (t ∷ front) r ts e = ap (or_else t.0 t.1) (refusal_skipped front r ts e)
-
--- a call that no test refuses has passed the one behind others
-pub refusal_behind : (front : Tests) (b : Bool) (r : Refusal) (ts : Tests) → refusal (front ++ ((b, r) ∷ ts)) ≡ none → b ≡ false
-refusal_behind [] b r ts e = (refusal_passed b r ts e).0
-refusal_behind (t ∷ front) b r ts e = refusal_behind front b r ts (refusal_passed t.0 t.1 (front ++ ((b, r) ∷ ts)) e).1
 
 -- a verdict with the number 0 accepts
 pub verdict_none : (v : Option Refusal) → verdict_number v ≡ 0 → v ≡ none

@@ -28,7 +28,6 @@ pub fn change(
             changing::write(run, stream, at, node, row, places, tag, r, out)
         }
         Command::Delete { tag } => changing::delete(run, node, row, tag, out),
-        Command::Release { tag } => changing::release(run, node, row, tag, out),
         Command::Read { .. } => run,
         Command::Count => run,
         Command::Unknown => run,

@@ -1,4 +1,4 @@
--- Nodes never run out (SPEC 4.9): children are counted twice, by their parents and by themselves. Assumes nothing.
+-- Nodes never run out (SPEC 4.8): children are counted twice, by their parents and by themselves. Assumes nothing.
 use Rattle.std.specs.Prelude.{◌≡◌, refl, ◌≢◌, Bool, true, false, not, ◌&&◌, ℕ, zero, suc, ◌+◌, ◌*◌, ◌≤◌, ◌<◌, eqb}
 use Rattle.std.proofs.Math.Path.{ap}
 use Rattle.std.proofs.Math.Logic.{by_cases}

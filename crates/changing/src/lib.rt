@@ -1,7 +1,7 @@
 // A command's call that changes the store, with its line: its number, the answer and a dash.
 ghost use Rattle.std.specs.Prelude.{◌+◌, ◌≤◌, length};
 ghost use Rattle.commands.specs.Format.{row_at};
-ghost use Rattle.model.specs.Call.{snapshot, write, delete, one, release};
+ghost use Rattle.model.specs.Call.{snapshot, write, delete, one};
 ghost use Rattle.progress.specs.Replying.{Room, Answered, Answers};
 
 use measures::Row;
@@ -20,12 +20,11 @@ pub fn snapshot<'a>(
     ensures { Answers run node.now row.now (one (snapshot source tag)) out.old result node.now row.now out.new }
 {
     let tree = run.tree;
-    let released = run.released;
-    let s = store_snapshot::snapshot(run.size, tree, &released, node, row, source, tag);
+    let s = snapshots::snapshot(run.size, tree, node, row, source, tag);
     let answer = widen::byte(s.answer);
     let next = s.tree;
     let end = text::plain_line(out, run.end, run.line, answer);
-    progress::on(run, next, released, end)
+    progress::on(run, next, end)
 }
 
 // A delete, and its line.
@@ -34,31 +33,11 @@ pub fn delete(run: Progress, node: &mut [u8], row: &mut [u16], tag: u16, out: &m
     ensures { Answers run node.old row.old (one (delete tag)) out.old result node.new row.new out.new }
 {
     let tree = run.tree;
-    let released = run.released;
-    let d = store_delete::delete(run.size, tree, &released, node, row, tag);
+    let d = deleting::delete(run.size, tree, node, row, tag);
     let answer = widen::byte(d.answer);
     let next = d.tree;
     let end = text::plain_line(out, run.end, run.line, answer);
-    progress::on(run, next, released, end)
-}
-
-// A release, and its line. The flags are lent as a copy, which the run goes on with.
-pub fn release<'a>(
-    run: Progress,
-    node: &'a [u8],
-    row: &'a [u16],
-    tag: u16,
-    out: &mut [u8],
-) -> Progress
-    requires { Room run 12 out.old }
-    ensures { Answers run node.now row.now (release tag) out.old result node.now row.now out.new }
-{
-    let tree = run.tree;
-    let mut released = run.released;
-    let a = store_release::release(run.size, tree, &mut released, node, row, tag);
-    let answer = widen::byte(a);
-    let end = text::plain_line(out, run.end, run.line, answer);
-    progress::on(run, tree, released, end)
+    progress::on(run, next, end)
 }
 
 // A write of a row by its number in the stream, with the bytes that stand behind it, and its line.
@@ -78,13 +57,11 @@ pub fn write(
         result node.new row.new places.new out.new }
 {
     let tree = run.tree;
-    let released = run.released;
     let width = run.size.width;
     let bytes = &stream[at + 5..at + 5 + width];
-    let w = store_write::write(
+    let w = writing::write(
         run.size,
         tree,
-        &released,
         node,
         row,
         places,
@@ -95,5 +72,5 @@ pub fn write(
     let answer = widen::byte(w.answer);
     let next = w.tree;
     let end = text::plain_line(out, run.end, run.line, answer);
-    progress::on(run, next, released, end)
+    progress::on(run, next, end)
 }

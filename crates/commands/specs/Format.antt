@@ -5,9 +5,9 @@ use Rattle.basics.specs.Decide.{at}
 use Rattle.laying.specs.Laid.{pair_at}
 use Rattle.answers.specs.Answers.{Refusal, unknown_command, cut_command}
 use Rattle.answers.specs.Tests.{verdict_number}
-use Rattle.model.specs.Call.{snapshot, read, write, delete, count, Call, one, release}
+use Rattle.model.specs.Call.{snapshot, read, write, delete, count, Call, one}
 use Rattle.commands.specs.declared.Command.{Command}
-use Rattle.commands.specs.declared.Command.TheVariants.{Over, Unknown, Cut, Snapshot, Read, Write, Delete, Count, Release}
+use Rattle.commands.specs.declared.Command.TheVariants.{Over, Unknown, Cut, Snapshot, Read, Write, Delete, Count}
 use Rattle.commands.specs.declared.Step.{Step}
 
 -- how many bytes a command of a kind has, where a row has `width`; 0 if the kind is unknown
@@ -18,8 +18,7 @@ size_of width kind =
     (cond (eqb kind 3) (5 + width)
     (cond (eqb kind 4) 3
     (cond (eqb kind 5) 1
-    (cond (eqb kind 6) 3
-    0)))))
+    0))))
 
 -- a command of a known kind at p
 unfoldable pub command_of : List ℕ → ℕ → ℕ → Command
@@ -28,8 +27,7 @@ command_of s p kind =
     (cond (eqb kind 2) (Read (pair_at s (p + 1)) (pair_at s (p + 3)))
     (cond (eqb kind 3) (Write (pair_at s (p + 1)) (pair_at s (p + 3)))
     (cond (eqb kind 4) (Delete (pair_at s (p + 1)))
-    (cond (eqb kind 5) Count
-    (Release (pair_at s (p + 1)))))))
+    Count)))
 
 -- the refusal with which a stream ends there: an unknown kind, or a command that is cut
 abbrev pub refusal_of : Command → Option Refusal
@@ -41,7 +39,6 @@ refusal_of (Read tag row) = none
 refusal_of (Write tag row) = none
 refusal_of (Delete tag) = none
 refusal_of Count = none
-refusal_of (Release tag) = none
 
 -- a command whose call can change the store
 abbrev pub changes : Command → Bool
@@ -53,7 +50,6 @@ changes (Read tag row) = false
 changes (Write tag row) = true
 changes (Delete tag) = true
 changes Count = false
-changes (Release tag) = true
 
 -- a command, the position behind it, and the number of that refusal, 0 if there is none
 abbrev pub stand : Command → ℕ → Step
@@ -81,7 +77,6 @@ call_at width s p (Read tag row) = some (one (read tag row))
 call_at width s p (Write tag row) = some (one (write tag row (row_at width s p)))
 call_at width s p (Delete tag) = some (one (delete tag))
 call_at width s p Count = some (one count)
-call_at width s p (Release tag) = some (release tag)
 
 -- A whole stream, from p on. Every command has a byte at least, so `most` commands are enough where as many bytes are left
 

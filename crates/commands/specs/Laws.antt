@@ -14,7 +14,7 @@ use Rattle.answers.specs.Tests.{verdict_number}
 use Rattle.model.specs.Call.{write, Call, one}
 use Rattle.commands.specs.declared.Command.{Command}
 use Rattle.commands.specs.declared.Step.{Step}
-use Rattle.commands.specs.declared.Command.TheVariants.{Over, Unknown, Cut, Snapshot, Read, Write, Delete, Count, Release}
+use Rattle.commands.specs.declared.Command.TheVariants.{Over, Unknown, Cut, Snapshot, Read, Write, Delete, Count}
 use Rattle.commands.specs.Format.{size_of, command_of, refusal_of, step_at, stand, call_at, row_at, Reading}
 
 size_two : (width kind : ℕ) → 1 ≤ kind → kind ≤ 3 → 5 ≤ size_of width kind
@@ -25,27 +25,16 @@ size_two width kind l m = by_cases (ℕ_discrete kind 1)
     (λ e. rw (ne_eqb kind 1 f, eq-eqb kind 2 e) (omega arith))
     (λ g. rw (ne_eqb kind 1 f, ne_eqb kind 2 g, eq-eqb kind 3 (omega arith)) (omega arith)))
 
-size_one : (width kind : ℕ) → kind ≡ 4 → 3 ≤ size_of width kind
+size_one : (width : ℕ) → 3 ≤ size_of width 4
 unfolding size_of
-size_one width kind e = rw e (omega arith)
+size_one width = omega arith
 
-size_last : (width kind : ℕ) → kind ≢ 1 → kind ≢ 2 → kind ≢ 3 → kind ≢ 4 → kind ≢ 5 → 0 < size_of width kind → 3 ≤ size_of width kind
-unfolding size_of
-size_last width kind a b c d e = rw (ne_eqb kind 1 a, ne_eqb kind 2 b, ne_eqb kind 3 c, ne_eqb kind 4 d, ne_eqb kind 5 e) (go (eqb kind 6))
-  where
-    go : (b : Bool) → 0 < cond b 3 0 → 3 ≤ cond b 3 0
-    go true h = omega arith
-    go false h = absurd (omega (arith, h))
-
--- a snapshot, a read or a write has two operands, a delete one, and so has what is none of these and no count
+-- a snapshot, a read or a write has two operands, a delete one
 pub two_operands : {width : ℕ} {s : List ℕ} {p : ℕ} → Reading width s p → 1 ≤ at s p → at s p ≤ 3 → p + 5 ≤ length s
 two_operands {width} {s} {p} r l m = omega (arith, r.whole, size_two width (at s p) l m)
 
 pub one_operand : {width : ℕ} {s : List ℕ} {p : ℕ} → Reading width s p → at s p ≡ 4 → p + 3 ≤ length s
-one_operand {width} {s} {p} r e = omega (arith, r.whole, size_one width (at s p) e)
-
-pub last_operand : {width : ℕ} {s : List ℕ} {p : ℕ} → Reading width s p → at s p ≢ 1 → at s p ≢ 2 → at s p ≢ 3 → at s p ≢ 4 → at s p ≢ 5 → p + 3 ≤ length s
-last_operand {width} {s} {p} r a b c d e = omega (arith, r.whole, size_last width (at s p) a b c d e r.known)
+one_operand {width} {s} {p} r e = let w : p + size_of width 4 ≤ length s = rw (sym e) r.whole in omega (arith, w, size_one width)
 
 size_three : (width kind : ℕ) → kind ≡ 3 → size_of width kind ≡ 5 + width
 unfolding size_of
@@ -60,7 +49,6 @@ kind_of (Read tag row) = 2
 kind_of (Write tag row) = 3
 kind_of (Delete tag) = 4
 kind_of Count = 5
-kind_of (Release tag) = 6
 
 -- something stands there
 abbrev pub stands : Command → Bool
@@ -72,7 +60,6 @@ stands (Read tag row) = true
 stands (Write tag row) = true
 stands (Delete tag) = true
 stands Count = true
-stands (Release tag) = true
 
 -- What stands at a position, by its tests
 
@@ -139,25 +126,24 @@ module _ (width : ℕ) (s : List ℕ) (p : ℕ) where
       go false false false = refl
 
   -- what holds of each command of a known kind
-  of_known : (P : Command → Type 0) (kind : ℕ) → ((a b : ℕ) → P (Snapshot a b)) → ((a b : ℕ) → P (Read a b)) → (kind ≡ 3 → (a b : ℕ) → P (Write a b)) → ((a : ℕ) → P (Delete a)) → P Count → ((a : ℕ) → P (Release a)) → P (command_of s p kind)
+  of_known : (P : Command → Type 0) (kind : ℕ) → ((a b : ℕ) → P (Snapshot a b)) → ((a b : ℕ) → P (Read a b)) → (kind ≡ 3 → (a b : ℕ) → P (Write a b)) → ((a : ℕ) → P (Delete a)) → P Count → P (command_of s p kind)
   unfolding command_of
-  of_known P kind f g h k l m = go (eqb kind 1) (eqb kind 2) (eqb kind 3) (eqb kind 4) (eqb kind 5) (eqb-true kind 3)
+  of_known P kind f g h k l = go (eqb kind 1) (eqb kind 2) (eqb kind 3) (eqb kind 4) (eqb-true kind 3)
     where
-      go : (a b c d e : Bool) → (c ≡ true → kind ≡ 3) → P (cond a (Snapshot (pair_at s (p + 1)) (pair_at s (p + 3))) (cond b (Read (pair_at s (p + 1)) (pair_at s (p + 3))) (cond c (Write (pair_at s (p + 1)) (pair_at s (p + 3))) (cond d (Delete (pair_at s (p + 1))) (cond e Count (Release (pair_at s (p + 1))))))))
-      go true b c d e t = f _ _
-      go false true c d e t = g _ _
-      go false false true d e t = h (t refl) _ _
-      go false false false true e t = k _
-      go false false false false true t = l
-      go false false false false false t = m _
+      go : (a b c d : Bool) → (c ≡ true → kind ≡ 3) → P (cond a (Snapshot (pair_at s (p + 1)) (pair_at s (p + 3))) (cond b (Read (pair_at s (p + 1)) (pair_at s (p + 3))) (cond c (Write (pair_at s (p + 1)) (pair_at s (p + 3))) (cond d (Delete (pair_at s (p + 1))) Count))))
+      go true b c d t = f _ _
+      go false true c d t = g _ _
+      go false false true d t = h (t refl) _ _
+      go false false false true t = k _
+      go false false false false t = l
 
   -- and its number is 0
   pub known_number : (kind : ℕ) → verdict_number (refusal_of (command_of s p kind)) ≡ 0
-  known_number kind = of_known (λ c. verdict_number (refusal_of c) ≡ 0) kind (λ a b. refl) (λ a b. refl) (λ t a b. refl) (λ a. refl) refl (λ a. refl)
+  known_number kind = of_known (λ c. verdict_number (refusal_of c) ≡ 0) kind (λ a b. refl) (λ a b. refl) (λ t a b. refl) (λ a. refl) refl
 
   -- only a write has the kind 3
   kind_three : (kind : ℕ) → kind_of (command_of s p kind) ≡ 3 → kind ≡ 3
-  kind_three kind = of_known (λ c. kind_of c ≡ 3 → kind ≡ 3) kind (λ a b e. absurd (omega (arith, e))) (λ a b e. absurd (omega (arith, e))) (λ t a b e. t) (λ a e. absurd (omega (arith, e))) (λ e. absurd (omega (arith, e))) (λ a e. absurd (omega (arith, e)))
+  kind_three kind = of_known (λ c. kind_of c ≡ 3 → kind ≡ 3) kind (λ a b e. absurd (omega (arith, e))) (λ a b e. absurd (omega (arith, e))) (λ t a b e. t) (λ a e. absurd (omega (arith, e))) (λ e. absurd (omega (arith, e)))
 
   -- and its row lies inside the stream
   pub write_inside : {tag row : ℕ} → (step_at width s p).command ≡ Write tag row → (p + 5) + width ≤ length s

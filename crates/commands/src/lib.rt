@@ -1,5 +1,5 @@
 // Commands in a stream of bytes: a byte says the kind, and operands of two bytes follow, the high one first.
-//     1 snapshot: source tag, new tag    2 read: tag, row    3 write: tag, row, the row's bytes    4 delete: tag    5 count    6 release: tag
+//     1 snapshot: source tag, new tag    2 read: tag, row    3 write: tag, row, the row's bytes    4 delete: tag    5 count
 ghost use Rattle.std.specs.Prelude.{◌≡◌, ◌≤◌};
 ghost use Rattle.commands.specs.Format.{changes, size_of};
 
@@ -14,7 +14,6 @@ pub enum Command {
     Write { tag: u16, row: u16 },
     Delete { tag: u16 },
     Count,
-    Release { tag: u16 },
 }
 
 // A command, the position behind it, and the number of the refusal with which the stream ends there, else 0.
@@ -38,7 +37,6 @@ pub fn changes(command: Command) -> bool
         Command::Write { .. } => true,
         Command::Delete { .. } => true,
         Command::Count => false,
-        Command::Release { .. } => true,
     }
 }
 
@@ -61,9 +59,6 @@ pub fn size_of(width: usize, kind: u8) -> usize
     }
     if kind == 5 {
         return 1;
-    }
-    if kind == 6 {
-        return 3;
     }
     0
 }

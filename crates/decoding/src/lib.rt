@@ -30,11 +30,7 @@ fn command_of(stream: &[u8], p: usize, width: usize) -> Command
         let tag = laying::number(stream, p + 1);
         return Command::Delete { tag };
     }
-    if kind == 5 {
-        return Command::Count;
-    }
-    let tag = laying::number(stream, p + 1);
-    Command::Release { tag }
+    Command::Count
 }
 
 // The command at p, and where the next one starts. An unknown kind goes before a stream that ends inside a command.

@@ -1,5 +1,5 @@
-// Drawn histories: a store and a full copy of every version take the same calls, and every answer, row, count, sharing and
-// flag of the two is compared. The crates whose names begin with history_ are this test's own.
+// Drawn histories: a store and a full copy of every version take the same calls, and every answer, row, count and sharing
+// of the two is compared. The crates whose names begin with history_ are this test's own.
 use history_plans::Plan;
 
 // What does not fit in the full copy is not run.
@@ -49,7 +49,7 @@ fn configurations(tally: &mut [usize]) {
 }
 
 fn main() {
-    let mut tally = [0usize; 297];
+    let mut tally = [0usize; 285];
     configurations(&mut tally);
     history_summing::show_refusals(&tally);
     history_summing::show_end(&tally);

@@ -1,36 +1,27 @@
 // A drawn call, made on the store.
-use history_plans::{BORDER, COUNT, Call, DELETE, RELEASE, SNAPSHOT, WRITE};
+use history_plans::{BORDER, COUNT, Call, DELETE, SNAPSHOT, WRITE};
 use measures::{Row, Size};
 use trees::Tree;
 
-// What a call answered, how many rows a border did, and the tree and the flags that it left.
+// What a call answered, how many rows a border did, and the tree that it left.
 #[derive(Drop)]
 pub struct Done {
     pub answer: u8,
     pub done: usize,
     pub tree: Tree,
-    pub released: [u8; 128],
 }
 
-fn ended(answer: u8, tree: Tree, released: [u8; 128]) -> Done {
+fn ended(answer: u8, tree: Tree) -> Done {
     Done {
         answer,
         done: 0,
         tree,
-        released,
     }
 }
 
-fn snapshot<'a>(
-    size: Size,
-    tree: Tree,
-    released: [u8; 128],
-    node: &'a [u8],
-    row: &'a [u16],
-    call: Call,
-) -> Done {
-    let s = store_snapshot::snapshot(size, tree, &released, node, row, call.tag, call.new);
-    ended(s.answer, s.tree, released)
+fn snapshot<'a>(size: Size, tree: Tree, node: &'a [u8], row: &'a [u16], call: Call) -> Done {
+    let s = snapshots::snapshot(size, tree, node, row, call.tag, call.new);
+    ended(s.answer, s.tree)
 }
 
 // The first n bytes, or all where there are fewer.
@@ -44,7 +35,6 @@ fn front(bytes: &[u8], n: usize) -> &[u8] {
 fn write(
     size: Size,
     tree: Tree,
-    released: [u8; 128],
     node: &mut [u8],
     row: &mut [u16],
     places: &mut [u8],
@@ -52,10 +42,9 @@ fn write(
 ) -> Done {
     let all = call.bytes;
     let bytes = front(&all, call.length);
-    let w = store_write::write(
+    let w = writing::write(
         size,
         tree,
-        &released,
         node,
         row,
         places,
@@ -63,7 +52,7 @@ fn write(
         Row(call.row),
         bytes,
     );
-    ended(w.answer, w.tree, released)
+    ended(w.answer, w.tree)
 }
 
 // The row numbers of a border, with zeros behind.
@@ -85,7 +74,6 @@ fn front16(rows: &[u16], n: usize) -> &[u16] {
 fn border(
     size: Size,
     tree: Tree,
-    released: [u8; 128],
     node: &mut [u8],
     row: &mut [u16],
     places: &mut [u8],
@@ -95,52 +83,28 @@ fn border(
     let all = call.bytes;
     let rows = front16(&numbers, call.count);
     let bytes = front(&all, call.length);
-    let b = store_border::border(
-        size, tree, &released, node, row, places, call.tag, rows, bytes,
-    );
+    let b = bordering::border(size, tree, node, row, places, call.tag, rows, bytes);
     let next = b.tree;
     Done {
         answer: b.answer,
         done: b.done,
         tree: next,
-        released,
     }
 }
 
-fn delete(
-    size: Size,
-    tree: Tree,
-    released: [u8; 128],
-    node: &mut [u8],
-    row: &mut [u16],
-    call: Call,
-) -> Done {
-    let d = store_delete::delete(size, tree, &released, node, row, call.tag);
-    ended(d.answer, d.tree, released)
+fn delete(size: Size, tree: Tree, node: &mut [u8], row: &mut [u16], call: Call) -> Done {
+    let d = deleting::delete(size, tree, node, row, call.tag);
+    ended(d.answer, d.tree)
 }
 
-fn release<'a>(
-    size: Size,
-    tree: Tree,
-    released: [u8; 128],
-    node: &'a [u8],
-    row: &'a [u16],
-    call: Call,
-) -> Done {
-    let mut flags = released;
-    let answer = store_release::release(size, tree, &mut flags, node, row, call.tag);
-    ended(answer, tree, flags)
-}
-
-fn count<'a>(size: Size, tree: Tree, released: [u8; 128], node: &'a [u8], row: &'a [u16]) -> Done {
-    let c = store_count::count(size, tree, &released, node, row);
-    ended(c.answer, tree, released)
+fn count<'a>(size: Size, tree: Tree, node: &'a [u8], row: &'a [u16]) -> Done {
+    let c = counting::count(size, tree, node, row);
+    ended(c.answer, tree)
 }
 
 fn read<'a>(
     size: Size,
     tree: Tree,
-    released: [u8; 128],
     node: &'a [u8],
     row: &'a [u16],
     places: &'a [u8],
@@ -148,10 +112,9 @@ fn read<'a>(
 ) -> Done {
     let mut answer: u8 = 0;
     let mut sharers: usize = 0;
-    store_read::read(
+    queries::read(
         size,
         tree,
-        &released,
         node,
         row,
         places,
@@ -160,13 +123,12 @@ fn read<'a>(
         &mut answer,
         &mut sharers,
     );
-    ended(answer, tree, released)
+    ended(answer, tree)
 }
 
 pub fn make(
     size: Size,
     tree: Tree,
-    released: [u8; 128],
     node: &mut [u8],
     row: &mut [u16],
     places: &mut [u8],
@@ -174,12 +136,11 @@ pub fn make(
 ) -> Done {
     let kind = call.kind;
     match kind {
-        SNAPSHOT => snapshot(size, tree, released, node, row, call),
-        WRITE => write(size, tree, released, node, row, places, call),
-        DELETE => delete(size, tree, released, node, row, call),
-        COUNT => count(size, tree, released, node, row),
-        BORDER => border(size, tree, released, node, row, places, call),
-        RELEASE => release(size, tree, released, node, row, call),
-        _ => read(size, tree, released, node, row, places, call),
+        SNAPSHOT => snapshot(size, tree, node, row, call),
+        WRITE => write(size, tree, node, row, places, call),
+        DELETE => delete(size, tree, node, row, call),
+        COUNT => count(size, tree, node, row),
+        BORDER => border(size, tree, node, row, places, call),
+        _ => read(size, tree, node, row, places, call),
     }
 }

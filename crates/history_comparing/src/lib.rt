@@ -1,4 +1,4 @@
-// The store beside the full copy: answers, counts, rows, sharing, flags, and what a call may not change. A comparison gives the
+// The store beside the full copy: answers, counts, rows, sharing, and what a refusal leaves. A comparison gives the
 // number of what differs, or 0.
 use history_plans::{COUNT, Call, READ};
 use measures::{Row, Size};
@@ -25,10 +25,6 @@ pub const DONE: u8 = 9;
 
 pub const SHARERS: u8 = 10;
 
-pub const FLAGS: u8 = 11;
-
-pub const RELEASING: u8 = 12;
-
 pub fn first(a: u8, b: u8) -> u8 {
     if a != 0 {
         return a;
@@ -44,15 +40,8 @@ pub fn unless(same: bool, what: u8) -> u8 {
 }
 
 // Places in use and snapshots alive.
-fn counts<'a>(
-    size: Size,
-    tree: Tree,
-    released: &'a [u8; 128],
-    node: &'a [u8],
-    row: &'a [u16],
-    copies: &[usize],
-) -> u8 {
-    let c = store_count::count(size, tree, released, node, row);
+fn counts<'a>(size: Size, tree: Tree, node: &'a [u8], row: &'a [u16], copies: &[usize]) -> u8 {
+    let c = counting::count(size, tree, node, row);
     let answered = unless(c.answer == 0, COUNTS);
     let used = unless(c.used == history_slots::used(copies, size.rows), USED);
     let alive = unless(c.snapshots == history_slots::snapshots(copies), SNAPSHOTS);
@@ -89,7 +78,6 @@ fn same_sharers(copies: &[usize], slot: usize, r: usize, answer: u8, sharers: us
 fn one_row<'a>(
     size: Size,
     tree: Tree,
-    released: &'a [u8; 128],
     node: &'a [u8],
     row: &'a [u16],
     places: &'a [u8],
@@ -99,10 +87,9 @@ fn one_row<'a>(
 ) -> u8 {
     let mut answer: u8 = 0;
     let mut sharers: usize = 99;
-    let bytes = store_read::read(
+    let bytes = queries::read(
         size,
         tree,
-        released,
         node,
         row,
         places,
@@ -124,7 +111,6 @@ fn one_row<'a>(
 fn row_at<'a>(
     size: Size,
     tree: Tree,
-    released: &'a [u8; 128],
     node: &'a [u8],
     row: &'a [u16],
     places: &'a [u8],
@@ -133,7 +119,7 @@ fn row_at<'a>(
 ) -> u8 {
     if history_slots::in_use(copies, size.rows, k) {
         let tag = history_slots::tag_of(copies, k / 8);
-        return one_row(size, tree, released, node, row, places, copies, tag, k % 8);
+        return one_row(size, tree, node, row, places, copies, tag, k % 8);
     }
     0
 }
@@ -142,7 +128,6 @@ fn row_at<'a>(
 fn rows<'a>(
     size: Size,
     tree: Tree,
-    released: &'a [u8; 128],
     node: &'a [u8],
     row: &'a [u16],
     places: &'a [u8],
@@ -150,7 +135,7 @@ fn rows<'a>(
 ) -> u8 {
     let mut k: usize = 0;
     while k < 520 {
-        let what = row_at(size, tree, released, node, row, places, copies, k);
+        let what = row_at(size, tree, node, row, places, copies, k);
         if what != 0 {
             return what;
         }
@@ -162,18 +147,15 @@ fn rows<'a>(
 pub fn all<'a>(
     size: Size,
     tree: Tree,
-    released: &'a [u8; 128],
     node: &'a [u8],
     row: &'a [u16],
     places: &'a [u8],
     copies: &[usize],
 ) -> u8 {
-    let counted = counts(size, tree, released, node, row, copies);
-    let read = rows(size, tree, released, node, row, places, copies);
+    let counted = counts(size, tree, node, row, copies);
+    let read = rows(size, tree, node, row, places, copies);
     let shared = history_sharers::same(size.rows, tree, node, row, copies);
-    let flagged = history_flags::same(tree, released, copies);
-    let whole = first(unless(shared, SHARING), unless(flagged, FLAGS));
-    first(counted, first(read, whole))
+    first(counted, first(read, unless(shared, SHARING)))
 }
 
 // What a count or a read that was drawn hands out.
@@ -181,7 +163,6 @@ pub fn asked<'a>(
     size: Size,
     call: Call,
     tree: Tree,
-    released: &'a [u8; 128],
     node: &'a [u8],
     row: &'a [u16],
     places: &'a [u8],
@@ -189,10 +170,8 @@ pub fn asked<'a>(
 ) -> u8 {
     let kind = call.kind;
     match kind {
-        COUNT => counts(size, tree, released, node, row, copies),
-        READ => one_row(
-            size, tree, released, node, row, places, copies, call.tag, call.row,
-        ),
+        COUNT => counts(size, tree, node, row, copies),
+        READ => one_row(size, tree, node, row, places, copies, call.tag, call.row),
         _ => 0,
     }
 }

@@ -1,8 +1,8 @@
 // The calls on the full copy: a store that keeps every version whole, written without a look at the reference model. A
 // row that is written with other bytes gets a new mark, so that rows with one mark are those that share.
 use history_numbers::{add, get, get8, put, sum};
-use history_plans::{Call, DELETE, RELEASE, SNAPSHOT, WRITE};
-use history_slots::{alive_at, flag_at, mark_at, slot_of};
+use history_plans::{Call, DELETE, SNAPSHOT, WRITE};
+use history_slots::{alive_at, mark_at, slot_of};
 use measures::Size;
 
 // The origin's rows get the marks from 0 up; its bytes are zero already.
@@ -26,23 +26,16 @@ fn copy(copies: &mut [usize], from: usize, to: usize) {
     }
 }
 
-// The copy of a released version is not released.
 fn snapshot(copies: &mut [usize], source: u16, new: u16) {
     let from = slot_of(copies, source);
     let to = history_slots::first_from(copies, 0, false);
     copy(copies, from, to);
     put(copies, history_slots::tag_at(to), widen::pair(new));
-    put(copies, flag_at(to), 0);
 }
 
 fn delete(copies: &mut [usize], tag: u16) {
     let slot = slot_of(copies, tag);
     put(copies, alive_at(slot), 0);
-}
-
-fn release(copies: &mut [usize], tag: u16) {
-    let slot = slot_of(copies, tag);
-    put(copies, flag_at(slot), 1);
 }
 
 // Sets the bytes of a version's row to the first n of these.
@@ -77,7 +70,6 @@ fn change(copies: &mut [usize], call: Call) {
         SNAPSHOT => snapshot(copies, call.tag, call.new),
         WRITE => write(copies, call),
         DELETE => delete(copies, call.tag),
-        RELEASE => release(copies, call.tag),
         _ => {}
     }
 }

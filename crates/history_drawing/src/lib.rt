@@ -1,6 +1,6 @@
 // The dice, and the calls that are drawn with them.
 use history_numbers::{above, get, product, sum};
-use history_plans::{BORDER, COUNT, Call, DELETE, Plan, READ, RELEASE, SNAPSHOT, WRITE};
+use history_plans::{BORDER, COUNT, Call, DELETE, Plan, READ, SNAPSHOT, WRITE};
 
 // The state that a seed starts from, another one for each number of places.
 pub fn start(seed: usize, places: usize) -> usize {
@@ -157,27 +157,6 @@ fn border(plan: Plan, copies: &[usize], dice: &mut usize) -> Call {
     call
 }
 
-// Is a living version not released, while a third of the snapshots is?
-fn spared(copies: &[usize], tag: u16) -> bool {
-    if history_slots::released(copies, tag) {
-        return false;
-    }
-    if history_slots::slot_of(copies, tag) >= history_slots::SLOTS {
-        return false;
-    }
-    let n = sum(history_slots::flags(copies), 1);
-    product(3, n) > history_slots::snapshots(copies)
-}
-
-// A release, of a released version too; of the origin where another one is spared, since what is released stays to the end.
-fn release(plan: Plan, copies: &[usize], dice: &mut usize) -> Call {
-    let tag = some_tag(plan.tags, copies, dice);
-    if spared(copies, tag) {
-        return blank(RELEASE, 0);
-    }
-    blank(RELEASE, tag)
-}
-
 // A delete, of the origin too, or a read.
 fn other(plan: Plan, copies: &[usize], dice: &mut usize, kind: u8) -> Call {
     let mut call = blank(kind, some_tag(plan.tags, copies, dice));
@@ -190,9 +169,6 @@ fn other(plan: Plan, copies: &[usize], dice: &mut usize, kind: u8) -> Call {
 fn drawn(plan: Plan, copies: &[usize], dice: &mut usize) -> Call {
     if draw(dice, 16) < plan.share {
         return snapshot(plan, copies, dice);
-    }
-    if draw(dice, 24) == 0 {
-        return release(plan, copies, dice);
     }
     let kind = draw(dice, 8);
     match kind {

@@ -23,9 +23,7 @@ pub const READ: u8 = 4;
 
 pub const BORDER: u8 = 5;
 
-pub const RELEASE: u8 = 6;
-
-// A call, its kind one of the seven: the version that it is made on, a new snapshot's tag, a row, a border's second row and the number
+// A call, its kind one of the six: the version that it is made on, a new snapshot's tag, a row, a border's second row and the number
 // of its rows, the length and the bytes to be written, and what is to become of a write; and the dice as the draw left them.
 #[derive(Drop)]
 pub struct Call {

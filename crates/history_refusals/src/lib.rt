@@ -1,6 +1,6 @@
 // What the full copy answers: 0, or the refusal.
 use history_numbers::{product, sum};
-use history_plans::{BORDER, Call, DELETE, READ, RELEASE, SNAPSHOT, WRITE};
+use history_plans::{BORDER, Call, DELETE, READ, SNAPSHOT, WRITE};
 use history_slots::{SLOTS, slot_of};
 use measures::Size;
 
@@ -26,29 +26,10 @@ fn snapshot_refusal(copies: &[usize], source: u16, new: u16) -> u8 {
     0
 }
 
-// 26 of a released version, or 0.
-fn barred(copies: &[usize], tag: u16) -> u8 {
-    if history_slots::released(copies, tag) {
-        return 26;
-    }
-    0
-}
-
-// 5, 21, 26, or 0.
+// 5, 21, or 0.
 fn delete_refusal(copies: &[usize], tag: u16) -> u8 {
     if tag == 0 {
         return 5;
-    }
-    if slot_of(copies, tag) >= SLOTS {
-        return 21;
-    }
-    barred(copies, tag)
-}
-
-// 27, 21, or 0: a version may be released twice.
-fn release_refusal(copies: &[usize], tag: u16) -> u8 {
-    if tag == 0 {
-        return 27;
     }
     if slot_of(copies, tag) >= SLOTS {
         return 21;
@@ -104,7 +85,7 @@ fn unwritten(copies: &[usize], size: Size, call: Call) -> u8 {
     read_refusal(copies, size.rows, call.tag, call.row)
 }
 
-// What becomes of a write, of a released version too if it were not; or FULL if it is refused for another reason.
+// What becomes of a write, or FULL if it is refused for another reason.
 pub fn way_of(copies: &[usize], size: Size, call: Call) -> usize {
     if unwritten(copies, size, call) != 0 {
         return FULL;
@@ -113,14 +94,11 @@ pub fn way_of(copies: &[usize], size: Size, call: Call) -> usize {
     way(copies, size, slot_of(copies, call.tag), call.row, &bytes)
 }
 
-// 2, 3, 21, 26, 24, or 0.
+// 2, 3, 21, 24, or 0.
 fn write_refusal(copies: &[usize], size: Size, call: Call) -> u8 {
     let early = unwritten(copies, size, call);
     if early != 0 {
         return early;
-    }
-    if barred(copies, call.tag) != 0 {
-        return 26;
     }
     if way_of(copies, size, call) == FULL {
         return 24;
@@ -128,7 +106,7 @@ fn write_refusal(copies: &[usize], size: Size, call: Call) -> u8 {
     0
 }
 
-// 25, 2, 21, 26, or 0, before any row of a border is written.
+// 25, 2, 21, or 0, before any row of a border is written.
 fn border_refusal(copies: &[usize], size: Size, call: Call) -> u8 {
     if call.count > 64 {
         return 25;
@@ -139,7 +117,7 @@ fn border_refusal(copies: &[usize], size: Size, call: Call) -> u8 {
     if slot_of(copies, call.tag) >= SLOTS {
         return 21;
     }
-    barred(copies, call.tag)
+    0
 }
 
 // What the full copy answers to a call; to a border, before its rows.
@@ -151,7 +129,6 @@ pub fn refusal(copies: &[usize], size: Size, call: Call) -> u8 {
         DELETE => delete_refusal(copies, call.tag),
         BORDER => border_refusal(copies, size, call),
         READ => read_refusal(copies, size.rows, call.tag, call.row),
-        RELEASE => release_refusal(copies, call.tag),
         _ => 0,
     }
 }

@@ -7,9 +7,7 @@ fn history(plan: Plan, node: &mut [u8], row: &mut [u16], places: &mut [u8], tall
     let mut copies = [0usize; 8321];
     let opened = history_trying::open(size, node, row, places, &mut copies);
     history_telling::differ(size, tally, opened.what);
-    let tree = opened.tree;
-    let released = opened.released;
-    history_playing::calls(plan, tree, released, node, row, places, &mut copies, tally);
+    history_playing::calls(plan, opened.tree, node, row, places, &mut copies, tally);
 }
 
 // A history for each seed.

@@ -1,12 +1,12 @@
-// The full copy, as it is read: every version whole, in a slot of 128 numbers (alive or not, tag, a mark for each row, released
-// or not, the bytes). There are 65 slots, slot 0 the origin's, of up to 8 rows of up to 8 bytes; the next mark stands behind them.
+// The full copy, as it is read: every version whole, in a slot of 128 numbers (alive or not, tag, a mark for each row, the
+// bytes). There are 65 slots, slot 0 the origin's, of up to 8 rows of up to 8 bytes; the next mark stands behind them.
 use history_numbers::{get, get8, sum};
 
 pub const SLOTS: usize = 65;
 
 pub const NEXT: usize = 8320;
 
-// Where a slot begins, and where its tag, a mark, whether it is released and a byte stand.
+// Where a slot begins, and where its tag, a mark and a byte stand.
 pub fn alive_at(slot: usize) -> usize {
     (slot % 65) * 128
 }
@@ -17,10 +17,6 @@ pub fn tag_at(slot: usize) -> usize {
 
 pub fn mark_at(slot: usize, r: usize) -> usize {
     (slot % 65) * 128 + 2 + r % 8
-}
-
-pub fn flag_at(slot: usize) -> usize {
-    (slot % 65) * 128 + 10
 }
 
 pub fn byte_at(slot: usize, r: usize, i: usize) -> usize {
@@ -62,33 +58,6 @@ pub fn first_from(copies: &[usize], slot: usize, living: bool) -> usize {
         s += 1;
     }
     SLOTS
-}
-
-// Is the version in a slot alive and released?
-fn flagged(copies: &[usize], slot: usize) -> bool {
-    has(copies, slot, flag_at(slot), 1)
-}
-
-// Is the version with a tag alive and released?
-pub fn released(copies: &[usize], tag: u16) -> bool {
-    let slot = slot_of(copies, tag);
-    if slot < SLOTS {
-        return flagged(copies, slot);
-    }
-    false
-}
-
-// How many living versions are released.
-pub fn flags(copies: &[usize]) -> usize {
-    let mut n: usize = 0;
-    let mut s: usize = 0;
-    while s < SLOTS {
-        if flagged(copies, s) {
-            n = sum(n, 1);
-        }
-        s += 1;
-    }
-    n
 }
 
 // Are the first n of these bytes those of a slot's row?

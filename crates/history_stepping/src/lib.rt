@@ -1,5 +1,4 @@
 // A drawn call on both, the store and the full copy, counted and told.
-use history_making::Tried;
 use history_plans::Plan;
 use trees::Tree;
 
@@ -7,19 +6,18 @@ use trees::Tree;
 pub fn step(
     plan: Plan,
     tree: Tree,
-    released: [u8; 128],
     node: &mut [u8],
     row: &mut [u16],
     places: &mut [u8],
     copies: &mut [usize],
     tally: &mut [usize],
-) -> Tried {
+) -> Tree {
     let size = plan.size;
     let dice = history_numbers::get(tally, history_tallying::DICE);
     let call = history_drawing::next(plan, copies, dice);
-    let tried = history_trying::call(size, call, tree, released, node, row, places, copies);
-    history_tallying::count(tally, tree, &released, call, tried.answer, tried.done);
+    let tried = history_trying::call(size, call, tree, node, row, places, copies);
+    history_tallying::count(tally, tree, call, tried.answer, tried.done);
     history_tallying::count_rows(tally, tried.tree, copies, size.rows);
     history_telling::differ(size, tally, tried.what);
-    tried
+    tried.tree
 }

@@ -62,28 +62,7 @@ fn show_rows(tally: &[usize]) {
     entry(b", past a ghost ", tally, history_tallying::PAST_GHOST);
 }
 
-// How many releases there were, and calls on released versions.
-fn show_releases(tally: &[usize]) {
-    entry(b"\nreleased: versions ", tally, history_tallying::RELEASED);
-    entry(b", a further time ", tally, history_tallying::AGAIN);
-    entry(b", refused by 27: ", tally, history_tallying::ORIGIN);
-    entry(b", by 21: ", tally, history_tallying::UNKNOWN);
-    entry(
-        b"\non released versions: refused writes ",
-        tally,
-        history_tallying::NOT_WRITTEN,
-    );
-    entry(b", of equal bytes ", tally, history_tallying::NOT_EQUAL);
-    entry(b", in a full store ", tally, history_tallying::NOT_FULL);
-    entry(b", borders ", tally, history_tallying::NOT_BORDERED);
-    entry(b", of no row ", tally, history_tallying::NOT_NO_ROW);
-    entry(b", deletes ", tally, history_tallying::NOT_DELETED);
-    entry(b"; snapshots ", tally, history_tallying::COPIED);
-    entry(b", reads ", tally, history_tallying::READ_FROM);
-}
-
-// How many nodes of each shape were deleted, how often equal bytes were written, the borders, the releases, the rows, and the
-// differences.
+// How many nodes of each shape were deleted, how often equal bytes were written, the borders, the rows, and the differences.
 pub fn show_end(tally: &[usize]) {
     entry(b"deleted: leaves ", tally, history_tallying::LEAVES);
     entry(b", with one child ", tally, history_tallying::SINGLE);
@@ -98,7 +77,6 @@ pub fn show_end(tally: &[usize]) {
     entry(b", in a full store ", tally, history_tallying::EQUAL_FULL);
     entry(b", above children ", tally, history_tallying::EQUAL_ABOVE);
     show_borders(tally);
-    show_releases(tally);
     show_rows(tally);
     entry(b"\ndifferences ", tally, history_tallying::TOTAL);
     text(b"\n");

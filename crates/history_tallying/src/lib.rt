@@ -1,6 +1,6 @@
 // The tally of the test: what is counted of a configuration and of the whole run, and where the run is.
-use history_numbers::{above, add, get8, put, sum};
-use history_plans::{BORDER, Call, DELETE, READ, RELEASE, SNAPSHOT, WRITE};
+use history_numbers::{above, add, put, sum};
+use history_plans::{BORDER, Call, DELETE, SNAPSHOT, WRITE};
 use history_sharers::node_of;
 use trees::Tree;
 
@@ -72,33 +72,6 @@ pub const OF_MORE: usize = 282;
 pub const OF_ALL: usize = 283;
 
 pub const PAST_GHOST: usize = 284;
-
-// Releases in the whole run: of a version that was not yet released, of one that was; refused by 27, by 21.
-pub const RELEASED: usize = 285;
-
-pub const AGAIN: usize = 286;
-
-pub const ORIGIN: usize = 287;
-
-pub const UNKNOWN: usize = 288;
-
-// Calls on released versions in the whole run. Refused: writes, those of equal bytes and those that need a place in a full store
-// among them; borders, those of no row among them; deletes. Done: snapshots and reads.
-pub const NOT_WRITTEN: usize = 289;
-
-pub const NOT_EQUAL: usize = 290;
-
-pub const NOT_FULL: usize = 291;
-
-pub const NOT_BORDERED: usize = 292;
-
-pub const NOT_NO_ROW: usize = 293;
-
-pub const NOT_DELETED: usize = 294;
-
-pub const COPIED: usize = 295;
-
-pub const READ_FROM: usize = 296;
 
 // A configuration begins.
 pub fn clear(tally: &mut [usize]) {
@@ -176,38 +149,9 @@ fn count_border(tally: &mut [usize], call: Call) {
     }
 }
 
-// A refused release.
-fn count_unreleased(tally: &mut [usize], answer: u8) {
-    add_if(tally, ORIGIN, answer == 27);
-    add_if(tally, UNKNOWN, answer == 21);
-}
-
-// A write of a released version.
-fn count_unwritten(tally: &mut [usize], way: usize) {
-    add(tally, NOT_WRITTEN);
-    add_if(tally, NOT_EQUAL, way >= history_refusals::EQUAL);
-    add_if(tally, NOT_FULL, way == history_refusals::FULL);
-}
-
-// A border of a released version.
-fn count_unbordered(tally: &mut [usize], rows: usize) {
-    add(tally, NOT_BORDERED);
-    add_if(tally, NOT_NO_ROW, rows == 0);
-}
-
-// A call that is refused since its version is released.
-fn count_barred(tally: &mut [usize], call: Call) {
-    let kind = call.kind;
-    match kind {
-        WRITE => count_unwritten(tally, call.way),
-        BORDER => count_unbordered(tally, call.count),
-        DELETE => add(tally, NOT_DELETED),
-        _ => {}
-    }
-}
-
-// A refused border; it may have done a row.
-fn count_ended(tally: &mut [usize], answer: u8, done: usize) {
+// A refused call; only a border may have done a row.
+fn count_refused(tally: &mut [usize], answer: u8, done: usize) {
+    add(tally, REFUSED);
     add_if(tally, MANY_ROWS, answer == 25);
     if done == 1 {
         add_if(tally, ENDED_3, answer == 3);
@@ -215,47 +159,11 @@ fn count_ended(tally: &mut [usize], answer: u8, done: usize) {
     }
 }
 
-// A call that is refused for another reason.
-fn count_early(tally: &mut [usize], kind: u8, answer: u8, done: usize) {
-    match kind {
-        BORDER => count_ended(tally, answer, done),
-        RELEASE => count_unreleased(tally, answer),
-        _ => {}
-    }
-}
-
-fn count_refused(tally: &mut [usize], call: Call, answer: u8, done: usize) {
-    add(tally, REFUSED);
-    if answer == 26 {
-        count_barred(tally, call);
-    } else {
-        count_early(tally, call.kind, answer, done);
-    }
-}
-
-// Is the version with a tag flagged?
-fn flagged(tree: Tree, released: &[u8; 128], tag: u16) -> bool {
-    get8(released, node_of(tree, tag)) == 1
-}
-
-fn count_snapshot(tally: &mut [usize], of_released: bool) {
-    add(tally, SNAPSHOTS);
-    add_if(tally, COPIED, of_released);
-}
-
-fn count_release(tally: &mut [usize], again: bool) {
-    add_if(tally, AGAIN, again);
-    add_if(tally, RELEASED, !again);
-}
-
-// A call that was not refused, on the tree and the flags before it.
-fn count_kind(tally: &mut [usize], tree: Tree, released: &[u8; 128], call: Call) {
+// A call that was not refused, on the tree before it.
+fn count_kind(tally: &mut [usize], tree: Tree, call: Call) {
     let kind = call.kind;
-    let before = flagged(tree, released, call.tag);
     match kind {
-        SNAPSHOT => count_snapshot(tally, before),
-        RELEASE => count_release(tally, before),
-        READ => add_if(tally, READ_FROM, before),
+        SNAPSHOT => add(tally, SNAPSHOTS),
         WRITE => count_equal(tally, tree, call),
         BORDER => count_border(tally, call),
         DELETE => count_delete(tally, tree, call.tag),
@@ -263,23 +171,16 @@ fn count_kind(tally: &mut [usize], tree: Tree, released: &[u8; 128], call: Call)
     }
 }
 
-// A call with its answer and the rows done, on the tree and the flags before it.
-pub fn count(
-    tally: &mut [usize],
-    tree: Tree,
-    released: &[u8; 128],
-    call: Call,
-    answer: u8,
-    done: usize,
-) {
+// A call with its answer and the rows done, on the tree before it.
+pub fn count(tally: &mut [usize], tree: Tree, call: Call, answer: u8, done: usize) {
     put(tally, DICE, call.dice);
     add(tally, CALL);
     add(tally, CALLS);
     add(tally, sum(SEEN, widen::byte(answer)));
     if answer == 0 {
-        count_kind(tally, tree, released, call);
+        count_kind(tally, tree, call);
     } else {
-        count_refused(tally, call, answer, done);
+        count_refused(tally, answer, done);
     }
 }
 

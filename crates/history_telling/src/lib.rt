@@ -14,8 +14,6 @@ fn show_what(what: u8) {
         history_comparing::SHARING => text(b"who shares with whom"),
         history_comparing::DONE => text(b"the rows done"),
         history_comparing::SHARERS => text(b"how many share a row"),
-        history_comparing::FLAGS => text(b"which versions are released"),
-        history_comparing::RELEASING => text(b"what a release leaves"),
         _ => text(b"what a refusal leaves"),
     }
 }

@@ -18,14 +18,13 @@ fn after<'a>(
     size: Size,
     call: Call,
     tree: Tree,
-    released: &'a [u8; 128],
     node: &'a [u8],
     row: &'a [u16],
     places: &'a [u8],
     copies: &[usize],
 ) -> u8 {
-    let asked = history_comparing::asked(size, call, tree, released, node, row, places, copies);
-    let all = history_comparing::all(size, tree, released, node, row, places, copies);
+    let asked = history_comparing::asked(size, call, tree, node, row, places, copies);
+    let all = history_comparing::all(size, tree, node, row, places, copies);
     first(asked, all)
 }
 
@@ -33,16 +32,14 @@ pub fn call(
     size: Size,
     call: Call,
     tree: Tree,
-    released: [u8; 128],
     node: &mut [u8],
     row: &mut [u16],
     places: &mut [u8],
     copies: &mut [usize],
 ) -> Tried {
-    let mut tried = history_making::on_store(size, call, tree, released, node, row, places);
+    let mut tried = history_making::on_store(size, call, tree, node, row, places);
     let expected = history_copies::make(copies, size, call);
-    let flags = tried.released;
-    let what = after(size, call, tried.tree, &flags, node, row, places, copies);
+    let what = after(size, call, tried.tree, node, row, places, copies);
     tried.what = first(told(tried, expected), what);
     tried
 }
@@ -56,17 +53,15 @@ pub fn open(
     copies: &mut [usize],
 ) -> Tried {
     history_copies::open(copies, size.rows);
-    let opened = store_open::open(size, places, node, row);
+    let opened = opening::open(size, places, node, row);
     let answer = opened.answer;
     let tree = opened.tree;
-    let flags = opened.released;
-    let what = history_comparing::all(size, tree, &flags, node, row, places, copies);
+    let what = history_comparing::all(size, tree, node, row, places, copies);
     let same = unless(answer == 0, history_comparing::ANSWER);
     Tried {
         answer,
         done: 0,
         tree,
-        released: flags,
         what: first(same, what),
     }
 }

@@ -1,4 +1,4 @@
--- From a call's promise on records with flags to that on bytes. Assumes nothing.
+-- From a call's promise on records to that on bytes. Assumes nothing.
 use Rattle.std.specs.Prelude.{◌≡◌, ◌≢◌, List, ℕ, ◌≤◌, length, take}
 use Rattle.std.proofs.Common.{sym, ◌∙◌, length-take-le}
 use Rattle.std.proofs.Math.Option.{Option, none, some}
@@ -7,15 +7,13 @@ use Rattle.trees.specs.declared.Tree.{Tree}
 use Rattle.records.specs.Records.{records_of}
 use Rattle.answers.specs.Answers.{Refusal, unsound, number}
 use Rattle.answers.specs.Laws.{number_some}
-use Rattle.soundness.specs.Judged.{Leaves}
-use Rattle.kept.specs.Kept.{Ruled, kept}
-use Rattle.layout.specs.Layout.{entries, size_at, flags_at, nodes_at, loaded, Fits}
-use Rattle.layout.specs.Update.{loaded_flags}
+use Rattle.soundness.specs.Judged.{Judged, Leaves}
+use Rattle.layout.specs.Layout.{entries, size_at, nodes_at, loaded, Fits}
 use Rattle.host.specs.Host.{Host, HostEnds, Ready}
 
--- bytes that fit are judged by what they are loaded as; others are not sound
-pub host_ruled : {b : List ℕ} {Yes No : Type 0} → Fits b → Ruled (loaded b) Yes No → Host b Yes No
-host_ruled f j = record { sound = λ g s. j.sound s; unsound = λ h. j.unsound (λ s. h f s) }
+-- bytes that fit are judged by the records that they are loaded as; others are not sound
+pub host_judged : {b : List ℕ} {Yes No : Type 0} → Fits b → Judged (loaded b) Yes No → Host b Yes No
+host_judged f j = record { sound = λ g s. j.sound s; unsound = λ h. j.unsound (λ s. h f s) }
 
 pub host_unfit : {b : List ℕ} {Yes No : Type 0} → (Fits b → ⊥) → No → Host b Yes No
 host_unfit h n = record { sound = λ f s. absurd (h f); unsound = λ g. n }
@@ -26,16 +24,15 @@ module _ {A B : Type 0} {old new got : A} {old' new' got' : B} {answer : ℕ} (h
   leaves_kept none l = record { numbered = l.numbered; left = k l.numbered l.left }
   leaves_kept (some r) l = record { numbered = l.numbered; left = h (λ e. number_some r (sym l.numbered ∙ e)) l.left }
 
-  pub host_kept : {b : List ℕ} (v : Option Refusal) → Fits b → Ruled (loaded b) (Leaves v old new answer got) ((answer ≡ number unsound) × (got ≡ old)) → HostEnds b v old' new' answer got'
-  host_kept v f j = host_ruled f (record {
+  pub host_kept : {b : List ℕ} (v : Option Refusal) → Fits b → Judged (loaded b) (Leaves v old new answer got) ((answer ≡ number unsound) × (got ≡ old)) → HostEnds b v old' new' answer got'
+  host_kept v f j = host_judged f (record {
     sound = λ s. leaves_kept v (j.sound s);
     unsound = λ g. let u = j.unsound g in (u.0, h (λ e. number_some unsound (sym u.0 ∙ e)) u.1);
   })
 
 -- what a call found is what the bytes are loaded as
-pub as_loaded : (b : List ℕ) {size : Size} {t : Tree} {node row flags : List ℕ} → size ≡ size_at b → node ≡ nodes_at b → records_of (size_at b) t (nodes_at b) row ≡ (loaded b).records → flags ≡ flags_at b
-    → kept (records_of size t node row) flags ≡ loaded b
-as_loaded b e n l g = rw (e, n, l, g ∙ sym (loaded_flags b))
+pub as_loaded : (b : List ℕ) {size : Size} {t : Tree} {node row : List ℕ} → size ≡ size_at b → node ≡ nodes_at b → records_of (size_at b) t (nodes_at b) row ≡ loaded b → records_of size t node row ≡ loaded b
+as_loaded b e n l = rw (e, n) l
 
 -- the front of a buffer, as long as the table
 pub ready : {b : List ℕ} (xs : List ℕ) {n : ℕ} → Fits b → n ≡ entries (size_at b) → n ≤ length xs → Ready b (take n xs)

@@ -1,15 +1,14 @@
 // A border, the records being bytes. The rows are loaded into a buffer of their own, as small as serves.
 ghost use Rattle.std.specs.Prelude.{◌≡◌};
 ghost use Rattle.records.specs.Records.{records_of};
-ghost use Rattle.kept.specs.Kept.{kept};
-ghost use Rattle.layout.specs.Layout.{size_at, flags_at, nodes_at, stored};
+ghost use Rattle.layout.specs.Layout.{size_at, nodes_at, stored};
 ghost use Rattle.host.specs.Host.{Ready};
 ghost use Rattle.host_border.specs.Borders.{bytes_after, HostBorders};
 
 use layout::TABLE_AT;
 use trees::Tree;
 
-// Rows of the version with a tag are written, in their order, until one is refused. Refusals: 20, 25, 2, 21, 26, 3, 24.
+// Rows of the version with a tag are written, in their order, until one is refused. Refusals: 20, 25, 2, 21, 3, 24.
 pub fn border(
     records: &mut [u8],
     places: &mut [u8],
@@ -52,12 +51,10 @@ fn border_in(
 {
     let size = layout::size(records);
     let tree = loading::load(records, row);
-    let released = loading::load_flags(records);
     let to = TABLE_AT + row.len();
-    let b = store_border::border(
+    let b = bordering::border(
         size,
         tree,
-        &released,
         &mut records[TABLE_AT..to],
         row,
         places,
@@ -76,7 +73,7 @@ fn border_in(
 // What a border left is stored, unless no row was done: the tree and the rows. The nodes lie where it had them.
 fn keep_done(records: &mut [u8], done: usize, tree: Tree, row: &[u16])
     requires { Ready records.old row.now }
-    ensures { records.new ≡ bytes_after records.old done (stored (kept (records_of (size_at records.old) tree (nodes_at records.old) row.now) (flags_at records.old))) }
+    ensures { records.new ≡ bytes_after records.old done (stored (records_of (size_at records.old) tree (nodes_at records.old) row.now)) }
 {
     if done == 0 {
         return;

@@ -7,4 +7,4 @@ use Rattle.host.specs.Host.{Host}
 
 -- Count gives two numbers, zero if refused
 abbrev pub HostCounts : List ℕ → ℕ → ℕ → ℕ → Type 0
-HostCounts b answer in_use alive = Host b (counted answer in_use alive ≡ count_answer (loaded b).records) (counted answer in_use alive ≡ refused_of 2 unsound)
+HostCounts b answer in_use alive = Host b (counted answer in_use alive ≡ count_answer (loaded b)) (counted answer in_use alive ≡ refused_of 2 unsound)

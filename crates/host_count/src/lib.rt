@@ -33,9 +33,8 @@ fn count_in(records: &[u8], row: &mut [u16], used: &mut usize, snapshots: &mut u
 {
     let size = layout::size(records);
     let tree = loading::load(records, row);
-    let released = loading::load_flags(records);
     let to = TABLE_AT + row.len();
-    let c = store_count::count(size, tree, &released, &records[TABLE_AT..to], row);
+    let c = counting::count(size, tree, &records[TABLE_AT..to], row);
     *used = c.used;
     *snapshots = c.snapshots;
     c.answer

@@ -4,7 +4,7 @@ ghost use Rattle.host_delete.specs.Deletes.{HostDeletes};
 
 use layout::TABLE_AT;
 
-// The version with a tag goes. Refusals: 20, 5, 21, 26.
+// The version with a tag goes. Refusals: 20, 5, 21.
 pub fn delete(records: &mut [u8], tag: u16) -> u8
     ensures { HostDeletes records.old tag result records.new }
 {
@@ -31,9 +31,8 @@ fn delete_in(records: &mut [u8], row: &mut [u16], tag: u16) -> u8
 {
     let size = layout::size(records);
     let tree = loading::load(records, row);
-    let released = loading::load_flags(records);
     let to = TABLE_AT + row.len();
-    let d = store_delete::delete(size, tree, &released, &mut records[TABLE_AT..to], row, tag);
+    let d = deleting::delete(size, tree, &mut records[TABLE_AT..to], row, tag);
     let answer = d.answer;
     let next = d.tree;
     host::keep(records, answer, next, row);

@@ -58,20 +58,20 @@ pairs_zeros (suc n) = let e : 2 * suc n ≡ suc (suc (2 * n)) = omega arith in r
 zeros : (n m : ℕ) → replicate n 0 ++ replicate m 0 ≡ replicate {A = ℕ} (n + m) 0
 zeros n m = replicate-append-replicate n m 0
 
-tail : (a b c d n : ℕ) → (replicate a 0 ++ (replicate b 0 ++ pairs (replicate c 0))) ++ (replicate d 0 ++ (replicate n 0 ++ pairs (replicate n 0))) ≡ replicate ((a + (b + 2 * c)) + (d + (n + 2 * n))) 0
-tail a b c d n = rw (pairs_zeros c, pairs_zeros n, zeros b (2 * c), zeros a (b + 2 * c), zeros n (2 * n), zeros d (n + 2 * n)) (zeros (a + (b + 2 * c)) (d + (n + 2 * n)))
+tail : (a b c n : ℕ) → (replicate a 0 ++ (replicate b 0 ++ pairs (replicate c 0))) ++ (replicate n 0 ++ pairs (replicate n 0)) ≡ replicate ((a + (b + 2 * c)) + (n + 2 * n)) 0
+tail a b c n = rw (pairs_zeros c, pairs_zeros n, zeros b (2 * c), zeros a (b + 2 * c), zeros n (2 * n)) (zeros (a + (b + 2 * c)) (n + 2 * n))
 
 -- behind node 0's state all is zero
-first_tail : (z : Size) → stored (first_records z) ≡ pairs (z.rows ∷ z.width ∷ z.places ∷ []) ++ ((1 ∷ []) ++ replicate (639 + 3 * entries z) 0)
+first_tail : (z : Size) → stored (first_records z) ≡ pairs (z.rows ∷ z.width ∷ z.places ∷ []) ++ ((1 ∷ []) ++ replicate (511 + 3 * entries z) 0)
 unfolding stored tree_bytes table_bytes
 first_tail z =
     let n = entries z in
-    let e : (127 + (128 + 2 * 128)) + (128 + (n + 2 * n)) ≡ 639 + 3 * n = omega arith in
-    ap (λ (r : List ℕ). pairs (z.rows ∷ z.width ∷ z.places ∷ []) ++ (1 ∷ r)) (tail 127 128 128 128 n ∙ ap (λ (k : ℕ). replicate k 0) e)
+    let e : (127 + (128 + 2 * 128)) + (n + 2 * n) ≡ 511 + 3 * n = omega arith in
+    ap (λ (r : List ℕ). pairs (z.rows ∷ z.width ∷ z.places ∷ []) ++ (1 ∷ r)) (tail 127 128 128 n ∙ ap (λ (k : ℕ). replicate k 0) e)
 
 -- the measures are laid, then node 0's state, then zeros to the end
 module _ (z : Size) {xs b a c : List ℕ} {to₁ to₂ : ℕ} (e : xs ≡ (z.rows ∷ z.width ∷ z.places ∷ [])) (l : length b ≡ records_size z) (x : Lays b 0 (pairs xs) a to₁) (y : Lays a to₁ (1 ∷ []) c to₂) where
-  left : length c - to₂ ≡ 639 + 3 * entries z
+  left : length c - to₂ ≡ 511 + 3 * entries z
   left = omega (arith, y.size, x.size, y.ends, (head_ends z e x).0, l)
 
   pub first_laid : {zs : List ℕ} → zs ≡ replicate (length (take (length c - to₂) (drop to₂ c))) 0 → take to₂ c ++ (zs ++ drop (length c - to₂) (drop to₂ c)) ≡ stored (first_records z)

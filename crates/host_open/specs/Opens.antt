@@ -1,8 +1,7 @@
 -- What an opening answers and leaves, the records being bytes. Definitions only. Assumes nothing.
-use Rattle.std.specs.Prelude.{not, List, [], ◌∷◌, ℕ, ◌*◌, eqb, length, replicate}
+use Rattle.std.specs.Prelude.{◌≡◌, not, List, [], ◌∷◌, ℕ, ◌*◌, eqb, length, replicate}
 use Rattle.measures.specs.declared.Size.{Size}
-use Rattle.records.specs.Records.{records_of}
-use Rattle.kept.specs.Kept.{Kept, kept}
+use Rattle.records.specs.Records.{Records, records_of}
 use Rattle.answers.specs.Answers.{bad_size, bad_length}
 use Rattle.answers.specs.Tests.{Tests, refusal, in_measure}
 use Rattle.soundness.specs.Judged.{Leaves}
@@ -20,9 +19,9 @@ open_tests z records places =
 abbrev pub size_of : ℕ → ℕ → ℕ → Size
 size_of rows width places = record { rows = rows; width = width; places = places }
 
--- node 0 alone, a free entry for each snapshot place, and no version released
-abbrev pub first_records : Size → Kept
-first_records z = kept (records_of z first_tree (replicate (entries z) 0) (replicate (entries z) 0)) (replicate 128 0)
+-- node 0 alone, and a free entry for each snapshot place
+abbrev pub first_records : Size → Records
+first_records z = records_of z first_tree (replicate (entries z) 0) (replicate (entries z) 0)
 
 abbrev pub HostOpens : Size → List ℕ → List ℕ → ℕ → Lent → Type 0
 HostOpens z b places answer got =

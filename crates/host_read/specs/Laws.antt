@@ -2,10 +2,8 @@
 use Rattle.std.specs.Prelude.{◌≡◌, ◌≢◌, Bool, cond, List, [], ◌∷◌, ℕ, ◌*◌, eqb, length}
 use Rattle.std.proofs.Math.Path.{refl, sym}
 use Rattle.std.proofs.Common.{◌∙◌, eq-eqb, ne_eqb}
-use Rattle.std.proofs.Math.Logic.{by_cases}
 use Rattle.std.proofs.Math.Bool.{true, false, not}
 use Rattle.std.proofs.Math.Option.{Option}
-use Rattle.std.proofs.Math.Decide.{ℕ_discrete}
 use Rattle.std.proofs.Math.Dec.{leb}
 use Rattle.basics.specs.Decide.{at, not_yes, not_no}
 use Rattle.measures.specs.declared.Size.{Size}
@@ -13,17 +11,14 @@ use Rattle.trees.specs.declared.Tree.{Tree}
 use Rattle.records.specs.Records.{Records, records_of, lives}
 use Rattle.answers.specs.Answers.{Refusal, bad_length, bad_row, unknown_tag, unsound, handed, refused_of, row}
 use Rattle.answers.specs.Tests.{refusal, unless, verdict_number}
-use Rattle.answers.specs.Laws.{number_some}
-use Rattle.soundness.specs.Judged.{Leaves, judged_sound}
-use Rattle.reads.specs.Reads.{read_answer, row_of_tag, sharers_of_tag}
+use Rattle.soundness.specs.Judged.{Leaves}
+use Rattle.reads.specs.Reads.{ReadEnds, read_answer, row_of_tag, sharers_of_tag}
 use Rattle.reads.specs.Reads as queries
-use Rattle.reads.specs.Sizes.{read_size, same_number, same_bytes, same_sharers}
-use Rattle.kept.specs.Kept.{Kept, kept, SoundKept}
-use Rattle.store.specs.Store.{StoreReads}
-use Rattle.layout.specs.Layout.{size_at, flags_at, nodes_at, loaded, Fits}
+use Rattle.reads.specs.Sizes.{same_number, same_bytes, same_sharers}
+use Rattle.layout.specs.Layout.{size_at, nodes_at, loaded, Fits}
 use Rattle.layout.specs.Update.{loaded_size}
 use Rattle.host_read.specs.Reads.{HostReads, read_tests, copy_number, Copied}
-use Rattle.host.specs.Laws.{host_ruled, as_loaded}
+use Rattle.host.specs.Laws.{host_judged, as_loaded}
 
 -- the tests of a read, by what each of them says: places, row, tag; and with the length of the bytes lent for the row
 reads : Bool → Bool → Bool → Option Refusal
@@ -97,26 +92,18 @@ module _ (z : Records) (places : List ℕ) (tag r : ℕ) where
       let e : answer ≡ verdict_number (copies p o l t) = c.numbered ∙ rw (same_number h) (numbers_agree row' out many p o l t) in
       record { numbered = e; left = (λ i. (c.filled i, c.told i)) ∙ rw (e, same_bytes h, same_sharers h) (rows_agree row' out many p o l t) }
 
--- a row that is read has B bytes
-pub kept_read_size : (k : Kept) (places : List ℕ) (tag r : ℕ) {n sharers : ℕ} {bytes : List ℕ} → StoreReads k places tag r n bytes sharers → n ≡ 0 → length bytes ≡ k.records.size.width
-kept_read_size k places tag r {bytes = bytes} e z = by_cases (ℕ_discrete (length bytes) k.records.size.width)
-    (λ g. g)
-    (λ g.
-    let bad : SoundKept k → ⊥ = λ s. g (read_size k.records places tag r (judged_sound s.records (e.sound s)) z) in
-    absurd (number_some unsound (sym (same_number (e.unsound bad)) ∙ z)))
-
 -- On bytes
-module _ {b : List ℕ} {size : Size} {t : Tree} {node row flags : List ℕ} (f : Fits b) (e : size ≡ size_at b) (l : records_of (size_at b) t (nodes_at b) row ≡ (loaded b).records) (g : flags ≡ flags_at b) where
-  pub read_host : (places : List ℕ) (tag r : ℕ) {n seen answer sharers : ℕ} {bytes out out' : List ℕ} → StoreReads (kept (records_of size t node row) flags) places tag r n bytes seen → node ≡ nodes_at b
+module _ {b : List ℕ} {size : Size} {t : Tree} {node row : List ℕ} (f : Fits b) (e : size ≡ size_at b) (l : records_of (size_at b) t (nodes_at b) row ≡ loaded b) where
+  pub read_host : (places : List ℕ) (tag r : ℕ) {n seen answer sharers : ℕ} {bytes out out' : List ℕ} → ReadEnds (records_of size t node row) places tag r n bytes seen → node ≡ nodes_at b
       → Copied size.width n bytes seen out answer out' sharers → HostReads b places tag r out answer (out', sharers)
   unfolding copy_number
   read_host places tag r {n} {seen} {answer} {sharers} {bytes} {out} {out'} h p c =
-      let k : StoreReads (loaded b) places tag r n bytes seen = rw (sym (as_loaded b e p l g)) h in
-      let d : Copied (loaded b).records.size.width n bytes seen out answer out' sharers = rw (loaded_size b ∙ sym e) c in
-      host_ruled f (record {
-        sound = λ s. read_copied (loaded b).records places tag r (k.sound s) d;
-        unsound = λ y.
-            let u = same_number (k.unsound y) in
+      let k : ReadEnds (loaded b) places tag r n bytes seen = rw (sym (as_loaded b e p l)) h in
+      let d : Copied (loaded b).size.width n bytes seen out answer out' sharers = rw (loaded_size b ∙ sym e) c in
+      host_judged f (record {
+        sound = λ s. read_copied (loaded b) places tag r (k.sound s) d;
+        unsound = λ g.
+            let u = same_number (k.unsound g) in
             let a : answer ≡ 20 = c.numbered ∙ rw u in
             (a, (λ i. (c.filled i, c.told i)) ∙ rw a);
       })

@@ -26,4 +26,4 @@ pub record Copied (width number : ℕ) (bytes : List ℕ) (seen : ℕ) (out : Li
 
 -- what is lent to be filled: the row and how many share it, or the bytes as they were and 0
 abbrev pub HostReads : List ℕ → List ℕ → ℕ → ℕ → List ℕ → ℕ → List ℕ × ℕ → Type 0
-HostReads b places tag r out = HostEnds b (refusal (read_tests (loaded b).records (length places) (length out) tag r)) (out, 0) (row_of_tag (loaded b).records places tag r, sharers_of_tag (loaded b).records tag r)
+HostReads b places tag r out = HostEnds b (refusal (read_tests (loaded b) (length places) (length out) tag r)) (out, 0) (row_of_tag (loaded b) places tag r, sharers_of_tag (loaded b) tag r)

@@ -49,14 +49,12 @@ fn read_in<'a>(
 {
     let size = layout::size(records);
     let tree = loading::load(records, row);
-    let released = loading::load_flags(records);
     let to = TABLE_AT + row.len();
     let mut answer: u8 = 0;
     let mut seen: usize = 0;
-    let bytes = store_read::read(
+    let bytes = queries::read(
         size,
         tree,
-        &released,
         &records[TABLE_AT..to],
         row,
         places,

@@ -31,17 +31,8 @@ fn snapshot_in(records: &mut [u8], row: &mut [u16], source: u16, tag: u16) -> u8
 {
     let size = layout::size(records);
     let tree = loading::load(records, row);
-    let released = loading::load_flags(records);
     let to = TABLE_AT + row.len();
-    let s = store_snapshot::snapshot(
-        size,
-        tree,
-        &released,
-        &records[TABLE_AT..to],
-        row,
-        source,
-        tag,
-    );
+    let s = snapshots::snapshot(size, tree, &records[TABLE_AT..to], row, source, tag);
     let answer = s.answer;
     let next = s.tree;
     host::keep_tree(records, answer, next);

@@ -5,7 +5,7 @@ ghost use Rattle.host_write.specs.Writes.{HostWrites};
 use layout::TABLE_AT;
 use measures::Row;
 
-// A row of the version with a tag is written. Refusals: 20, 2, 3, 21, 26, 24.
+// A row of the version with a tag is written. Refusals: 20, 2, 3, 21, 24.
 pub fn write(records: &mut [u8], places: &mut [u8], tag: u16, r: Row, bytes: &[u8]) -> u8
     ensures { HostWrites records.old places.old tag r.0 bytes.now result (records.new, places.new) }
 {
@@ -39,12 +39,10 @@ fn write_in(
 {
     let size = layout::size(records);
     let tree = loading::load(records, row);
-    let released = loading::load_flags(records);
     let to = TABLE_AT + row.len();
-    let w = store_write::write(
+    let w = writing::write(
         size,
         tree,
-        &released,
         &mut records[TABLE_AT..to],
         row,
         places,

@@ -12,15 +12,14 @@ use Rattle.host_write.specs.Writes.{HostWrites}
 use Rattle.host_border.specs.Borders.{HostBorders}
 use Rattle.host_delete.specs.Deletes.{HostDeletes}
 use Rattle.host_count.specs.Counts.{HostCounts}
-use Rattle.host_release.specs.Releases.{HostReleases}
-use Rattle.hosting.specs.Calls.{HostCall, snapshot, read, write, border, delete, count, release}
+use Rattle.hosting.specs.Calls.{HostCall, snapshot, read, write, border, delete, count}
 
 -- the row that a read hands out: what lies in the bytes lent for it, if it was accepted
 unfoldable pub row_in : ℕ → List ℕ → List ℕ
 row_in number out = cond (eqb number 0) out []
 
 -- one call on record bytes and places, what it hands out, and what it leaves of both: exactly what the `ensures` of rowstore_snapshot,
--- rowstore_read, rowstore_write, rowstore_border, rowstore_delete, rowstore_count and rowstore_release say
+-- rowstore_read, rowstore_write, rowstore_border, rowstore_delete and rowstore_count say
 pub data HostCallEnds (b places : List ℕ) : HostCall → Answer → List ℕ → List ℕ → Type 0 where
   snapshot_ends : {source new number : ℕ} {b' : List ℕ} → HostSnapshots b source new number b' → HostCallEnds b places (snapshot source new) (handed number [] []) b' places
   read_ends : {tag r number sharers : ℕ} {out out' : List ℕ} → HostReads b places tag r out number (out', sharers)
@@ -30,7 +29,6 @@ pub data HostCallEnds (b places : List ℕ) : HostCall → Answer → List ℕ �
       → HostCallEnds b places (border tag rows bytes) (handed number [] (done ∷ [])) b' places'
   delete_ends : {tag number : ℕ} {b' : List ℕ} → HostDeletes b tag number b' → HostCallEnds b places (delete tag) (handed number [] []) b' places
   count_ends : {number in_use alive : ℕ} → HostCounts b number in_use alive → HostCallEnds b places count (counted number in_use alive) b places
-  release_ends : {tag number : ℕ} {b' : List ℕ} → HostReleases b tag number b' → HostCallEnds b places (release tag) (handed number [] []) b' places
 
 -- a list of calls, each given the bytes that the one before left, refused or not
 pub data HostTrace : List ℕ → List ℕ → List HostCall → List Answer → List ℕ → List ℕ → Type 0 where

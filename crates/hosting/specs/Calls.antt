@@ -20,7 +20,6 @@ pub data HostCall : Type 0 where
   border : ℕ → List ℕ → List ℕ → HostCall
   delete : ℕ → HostCall
   count : HostCall
-  release : ℕ → HostCall
 
 -- the call on records that it makes
 abbrev pub on_records : HostCall → Call
@@ -30,7 +29,6 @@ on_records (write tag r bs) = one (on_records_lem.write tag r bs)
 on_records (border tag rows bytes) = on_records_lem.border tag rows bytes
 on_records (delete tag) = one (on_records_lem.delete tag)
 on_records count = one on_records_lem.count
-on_records (release tag) = on_records_lem.release tag
 
 -- the test of what is lent to be filled: as many bytes as a row has. It comes before the call's own
 abbrev pub room_verdict : Size → HostCall → Option Refusal
@@ -40,7 +38,6 @@ room_verdict z (write tag r bs) = none
 room_verdict z (border tag rows bytes) = none
 room_verdict z (delete tag) = none
 room_verdict z count = none
-room_verdict z (release tag) = none
 
 module _ (z : Size) where  -- one call: its answer, and the model after it; a refusal changes nothing
   unfoldable pub host_answer : Model → HostCall → Answer

@@ -14,7 +14,7 @@ use Rattle.model.specs.Call as on_records_lem
 use Rattle.model.specs.Model.{Model, opened, reply, next, answers}
 use Rattle.theorem.specs.Cases.{Case, Meets, cases}
 use Rattle.host_open.specs.Opens.{open_tests, HostOpens}
-use Rattle.hosting.specs.Calls.{HostCall, snapshot, read, write, border, delete, count, release, room_verdict, host_answer, host_after, host_answers}
+use Rattle.hosting.specs.Calls.{HostCall, snapshot, read, write, border, delete, count, room_verdict, host_answer, host_after, host_answers}
 use Rattle.hosting.specs.Called.{HostTrace}
 use Rattle.hosting.specs.Guarantee.{guarantee_opened}
 
@@ -26,7 +26,6 @@ from_c z (one (on_records_lem.write tag r bs)) = write tag r bs
 from_c z (one (on_records_lem.delete tag)) = delete tag
 from_c z (one on_records_lem.count) = count
 from_c z (on_records_lem.border tag rows bytes) = border tag rows bytes
-from_c z (on_records_lem.release tag) = release tag
 
 -- the model answers it alike
 module _ (z : Size) where
@@ -43,7 +42,6 @@ module _ (z : Size) where
   alike m (one (on_records_lem.delete tag)) = (refl, refl)
   alike m (one on_records_lem.count) = (refl, refl)
   alike m (on_records_lem.border tag rows bytes) = (refl, refl)
-  alike m (on_records_lem.release tag) = (refl, refl)
 
   answers_alike : (m : Model) (cs : List Call) → host_answers z m (map (from_c z) cs) ≡ answers z m cs
   unfolding Alike host_answers answers
@@ -60,7 +58,7 @@ AllOpen (c ∷ cs) = Opens c × AllOpen cs
 
 pub cases_open : AllOpen cases
 unfolding refusal in_measure open_tests
-cases_open = (refl, (refl, (refl, (refl, (refl, (refl, (refl, (refl, (refl, (refl, (refl, (refl, (refl, (refl, (refl, (refl, (refl, (refl, (refl, (refl, (refl, (refl, (refl, (refl, tt))))))))))))))))))))))))
+cases_open = (refl, (refl, (refl, (refl, (refl, (refl, (refl, (refl, (refl, (refl, (refl, (refl, (refl, (refl, (refl, (refl, (refl, (refl, (refl, (refl, (refl, tt)))))))))))))))))))))
 
 -- so every opening from C with such buffers gets the line's number, and the calls on what it left hand out what the line says
 pub case_runs : (c : Case) → Meets c → Opens c → (b places : List ℕ) → length b ≡ c.records → length places ≡ c.places → (number : ℕ) (b₀ places₀ : List ℕ)

@@ -13,73 +13,69 @@ use Rattle.std.proofs.lemmas.Bool.{not-false}
 use Rattle.basics.specs.Decide.{not_yes, not_no}
 use Rattle.measures.specs.declared.Size.{Size}
 use Rattle.measures.specs.Measures.{Within}
-use Rattle.trees.specs.declared.Tree.{Tree}
-use Rattle.records.specs.Records.{Records, lives}
+use Rattle.records.specs.Records.{Records, records_of, lives}
 use Rattle.model.specs.Call.{Call, one}
 use Rattle.model.specs.Call as on_records_lem
 use Rattle.answers.specs.Answers.{Refusal, bad_size, bad_length, bad_row, unknown_tag, Answer, handed, row, refused_of, number}
 use Rattle.model.specs.Model.{Model, opened, reply, next}
 use Rattle.answers.specs.Tests.{refusal, unless, in_measure}
 use Rattle.answers.specs.Laws.{refusal_here, refusal_next, refusal_none, refusal_passed, unless_made, measure_in, number_some}
-use Rattle.soundness.specs.Judged.{Leaves}
+use Rattle.soundness.specs.Judged.{Leaves, judged_sound}
+use Rattle.edits.specs.Edits.{Whole, with_tree}
 use Rattle.reads.specs.Reads.{read_answer, row_of_tag, sharers_of_tag}
 use Rattle.reads.specs.Reads as queries
 use Rattle.takes.specs.Taking.{snapshot_verdict, snapshot_tree}
-use Rattle.owning.specs.Owning.{Held}
-use Rattle.writes.specs.Writing.{written}
-use Rattle.borders.specs.Bordering.{Ends}
-use Rattle.deletes.specs.Deleting.{Left, deleted}
+use Rattle.owning.specs.Owning.{Held, held}
+use Rattle.writes.specs.Writing.{write_verdict, written}
+use Rattle.borders.specs.Bordering.{bordered, Ends}
+use Rattle.borders.specs.BorderingWays.{bordered_none}
+use Rattle.deletes.specs.Deleting.{Left, left, delete_verdict, deleted}
 use Rattle.opening.specs.First.{first_sound}
+use Rattle.view.specs.View.{Store, started}
 use Rattle.view.specs.Starts.{open_agrees}
-use Rattle.kept.specs.Kept.{Kept, kept}
-use Rattle.kept.specs.Laws.{ruled_sound}
-use Rattle.store.specs.Store.{held_in, left_in, kept_write_verdict, kept_bordered, kept_delete_verdict, kept_release_verdict, flagged}
-use Rattle.store.specs.Laws.{border_none}
-use Rattle.keeping.specs.Keeps.{StoreKept, WholeKept, started_kept, Keeps}
-use Rattle.keeping.specs.Calls.{keeps_sound, snapshot_kept, write_kept, delete_kept}
-use Rattle.keeping.specs.Bordered.{border_kept}
-use Rattle.keeping.specs.Released.{release_kept}
-use Rattle.keeping.specs.Begins.{zeros, unflagged, start_kept}
-use Rattle.theorem.specs.Trace.{state, state_tree, state_held, state_left, state_flags, CallEnds}
+use Rattle.steps.specs.Begins.{start_call}
+use Rattle.steps.specs.Calls.{Runs, snapshot_call, write_call, delete_call}
+use Rattle.steps.specs.Bordered.{border_call}
+use Rattle.theorem.specs.Trace.{state, CallEnds}
 use Rattle.theorem.specs.Trace as trace
-use Rattle.theorem.specs.Theorem.{one_call, keeps_equal}
+use Rattle.theorem.specs.Theorem.{one_call, runs_equal}
 use Rattle.laying.specs.Laws.{numbers_size}
-use Rattle.layout.specs.Layout.{states_at, parents_at, tags_at, released_at, entries, part, stored, loaded, Fits}
+use Rattle.layout.specs.Layout.{states_at, parents_at, tags_at, entries, part, stored, loaded, Fits}
 use Rattle.layout.specs.Back.{Storable, loaded_stored, stored_fits}
 use Rattle.host_read.specs.Reads.{read_tests}
 use Rattle.host_border.specs.Borders.{bytes_after}
 use Rattle.host_open.specs.Opens.{open_tests, first_records, HostOpens}
 use Rattle.hosting.specs.Calls.{HostCall, read, room_verdict, host_answer, host_after, host_answers, host_final}
-use Rattle.hosting.specs.Called.{row_in, HostCallEnds, snapshot_ends, read_ends, write_ends, border_ends, delete_ends, count_ends, release_ends, HostTrace, over, then, Holds}
+use Rattle.hosting.specs.Called.{row_in, HostCallEnds, snapshot_ends, read_ends, write_ends, border_ends, delete_ends, count_ends, HostTrace, over, then, Holds}
 
--- what keeps to a model can be stored
-keeps_storable : {k : Kept} {places : List ℕ} {m : Model} → Keeps k places m → Storable k
-keeps_storable run =
-    let s = run.runs.store.sound.measured in
-    let w = run.runs.whole in
-    record { within = s.within; states = w.state; parents = w.parent; tags = w.tag; flags = run.flags; nodes = s.nodes; rows = s.rows }
+-- records that run can be stored
+runs_storable : {z : Records} {places : List ℕ} {m : Model} → Runs z places m → Storable z
+runs_storable run =
+    let s = run.store.sound.measured in
+    let w = run.whole in
+    record { within = s.within; states = w.state; parents = w.parent; tags = w.tag; nodes = s.nodes; rows = s.rows }
 
--- What a call leaves of the record bytes is loaded as what it leaves of the records and flags
+-- What a call leaves of the record bytes is loaded as what it leaves of the records
 
 module _ (b : List ℕ) (f : Fits b) where
-  reload : (v : Option Refusal) (new got : Kept) {b' : List ℕ} → b' ≡ unless v (λ x. b) (stored new) → got ≡ unless v (λ x. loaded b) new → Storable got → (loaded b' ≡ got) × Fits b'
+  reload : (v : Option Refusal) (new got : Records) {b' : List ℕ} → b' ≡ unless v (λ x. b) (stored new) → got ≡ unless v (λ x. loaded b) new → Storable got → (loaded b' ≡ got) × Fits b'
   reload none new got e h s = rw (e, sym h) (loaded_stored got s, stored_fits got s)
   reload (some x) new got e h s = rw (e) (sym h, f)
 
-module _ (v : Option Refusal) (k : Kept) (places : List ℕ) (h : Held) where
-  abbrev chosen : Held
-  chosen = unless v (λ x. held_in k places) h
+abbrev left_of : Records → Left → Records
+left_of z l = records_of z.size l.tree l.node l.row
 
-abbrev held_of : Kept → Held → Kept
-held_of k h = (state_held k h).kept
+abbrev held_of : Records → Held → Records
+held_of z h = records_of z.size h.tree h.node h.row
 
-abbrev left_of : Kept → Left → Kept
-left_of k l = (state_left k l []).kept
+module _ (v : Option Refusal) (z : Records) (places : List ℕ) (h : Held) where
+  abbrev kept : Held
+  kept = unless v (λ x. held z.tree z.node z.row places) h
 
-pair_chosen : (v : Option Refusal) (k : Kept) (b places : List ℕ) (h : Held) {b' places' : List ℕ} → ◌≡◌ {A = List ℕ × List ℕ} (b', places') (unless v (λ x. (b, places)) (stored (held_of k h), h.places))
-    → (b' ≡ unless v (λ x. b) (stored (held_of k h))) × (places' ≡ (chosen v k places h).places)
-pair_chosen none k b places h e = (ap (λ (p : List ℕ × List ℕ). p.0) e, ap (λ (p : List ℕ × List ℕ). p.1) e)
-pair_chosen (some x) k b places h e = (ap (λ (p : List ℕ × List ℕ). p.0) e, ap (λ (p : List ℕ × List ℕ). p.1) e)
+pair_chosen : (v : Option Refusal) (z : Records) (b places : List ℕ) (h : Held) {b' places' : List ℕ} → ◌≡◌ {A = List ℕ × List ℕ} (b', places') (unless v (λ x. (b, places)) (stored (held_of z h), h.places))
+    → (b' ≡ unless v (λ x. b) (stored (held_of z h))) × (places' ≡ (kept v z places h).places)
+pair_chosen none z b places h e = (ap (λ (p : List ℕ × List ℕ). p.0) e, ap (λ (p : List ℕ × List ℕ). p.1) e)
+pair_chosen (some x) z b places h e = (ap (λ (p : List ℕ × List ℕ). p.0) e, ap (λ (p : List ℕ × List ℕ). p.1) e)
 
 -- A border that did some row leaves what it stored; one that did none leaves the bytes, and has changed nothing
 reload_border : (b : List ℕ) → Fits b → (n : ℕ) (h old : Held) {b' : List ℕ} → loaded b ≡ held_of (loaded b) old → (n ≡ 0 → h ≡ old) → b' ≡ bytes_after b n (stored (held_of (loaded b) h)) → Storable (held_of (loaded b) h)
@@ -142,93 +138,76 @@ module _ (z : Size) (m : Model) where
 
 -- what is to be shown of one call from C
 pub record Told (b : List ℕ) (m : Model) (c : HostCall) (h : Answer) (b' places' : List ℕ) : Type 0 where
-  pub hands : h ≡ host_answer (loaded b).records.size m c
-  pub sized : (loaded b').records.size ≡ (loaded b).records.size
+  pub hands : h ≡ host_answer (loaded b).size m c
+  pub sized : (loaded b').size ≡ (loaded b).size
   pub fits : Fits b'
-  pub keeps : Keeps (loaded b') places' (host_after (loaded b).records.size m c)
+  pub runs : Runs (loaded b') places' (host_after (loaded b).size m c)
 
-module _ (b places : List ℕ) (m : Model) (f : Fits b) (run : Keeps (loaded b) places m) where
-  abbrev k : Kept
-  k = loaded b
+module _ (b places : List ℕ) (m : Model) (f : Fits b) (run : Runs (loaded b) places m) where
+  abbrev z : Records
+  z = loaded b
 
-  abbrev size : Size
-  size = k.records.size
+  -- it is a call on the records that the bytes are loaded as
+  told : {c : HostCall} {k : Call} {h : Answer} {b' places' : List ℕ} → host_answer z.size m c ≡ reply z.size m k → host_after z.size m c ≡ next z.size m k
+      → Fits b' → CallEnds z places k h (state (loaded b') places') → Told b m c h b' places'
+  told p q fits k = let (h, e, r) = one_call run k in record { hands = h ∙ sym p; sized = e; fits = fits; runs = rw q r }
 
-  -- it is a call on the records and flags that the bytes are loaded as
-  told : {c : HostCall} {d : Call} {h : Answer} {b' places' : List ℕ} → host_answer size m c ≡ reply size m d → host_after size m c ≡ next size m d
-      → Fits b' → CallEnds k places d h (state (loaded b') places') → Told b m c h b' places'
-  told p q fits d = let (h, e, r) = one_call run d in record { hands = h ∙ sym p; sized = e; fits = fits; keeps = rw q r }
-
-  pub host_call : {c : HostCall} {h : Answer} {b' places' : List ℕ} → HostCallEnds b places c h b' places' → Told b m c h b' places'
+  host_call : {c : HostCall} {h : Answer} {b' places' : List ℕ} → HostCallEnds b places c h b' places' → Told b m c h b' places'
   unfolding host_answer host_after
   host_call (snapshot_ends {source = source} {new = new} {number = number} e) =
-      let s = keeps_sound k places m run in
-      let l = e.sound f s in
-      let v = snapshot_verdict k.records source new in
-      let t = snapshot_tree k.records.tree source new in
-      let got : Leaves v k.records.tree t number (unless v (λ x. k.records.tree) t) = record { numbered = l.numbered; left = refl } in
-      let next = (snapshot_kept k places m run source new number _ got).1 in
-      let (same, fits) = reload b f v (state_tree k t places).kept _ l.left (unless_made (λ (x : Tree). (state_tree k x places).kept) v k.records.tree t) (keeps_storable next) in
-      told refl refl fits (rw same (trace.snapshot_ends (ruled_sound s got)))
-  host_call (read_ends {tag = tag} {r = r} {number = number} {sharers = sharers} {out = out} {out' = out'} e) = by_cases (ℕ_discrete (length out) size.width)
+      let l = e.sound f run.store.sound in
+      let v = snapshot_verdict z source new in
+      let t = snapshot_tree z.tree source new in
+      let got : Leaves v z.tree t number (unless v (λ x. z.tree) t) = record { numbered = l.numbered; left = refl } in
+      let next = (snapshot_call z places m run source new number _ got).1 in
+      let (same, fits) = reload b f v (with_tree z t) _ l.left (unless_made (with_tree z) v z.tree t) (runs_storable next) in
+      told refl refl fits (rw same (trace.snapshot_ends (judged_sound run.store.sound got)))
+  host_call (read_ends {tag = tag} {r = r} {number = number} {sharers = sharers} {out = out} {out' = out'} e) = by_cases (ℕ_discrete (length out) z.size.width)
       (λ w.
-      let s = keeps_sound k places m run in
-      let (p, q) = room_fits size m tag r (length out) w in
-      let l = rw (read_tests_lem k.records places out tag r w) at (e.sound f s) in
-      told p q f (trace.read_ends (ruled_sound s (answered k.records places tag r number (row_in number out') sharers
-      (read_hands (refusal (queries.read_tests k.records (length places) tag r)) (row_of_tag k.records places tag r) out out' (sharers_of_tag k.records tag r) sharers l)))))
+      let (p, q) = room_fits z.size m tag r (length out) w in
+      let l = rw (read_tests_lem z places out tag r w) at (e.sound f run.store.sound) in
+      told p q f (trace.read_ends (judged_sound run.store.sound (answered z places tag r number (row_in number out') sharers
+      (read_hands (refusal (queries.read_tests z (length places) tag r)) (row_of_tag z places tag r) out out' (sharers_of_tag z tag r) sharers l)))))
       (λ w.
-      let (p, q) = room_wrong size m tag r (length out) w in
-      let h = unfilled _ _ out out' _ sharers (wrong_room k.records places out tag r run.runs.store.size w) (e.sound f (keeps_sound k places m run)) in
-      record { hands = h ∙ sym p; sized = refl; fits = f; keeps = rw q run })
+      let (p, q) = room_wrong z.size m tag r (length out) w in
+      let h = unfilled _ _ out out' _ sharers (wrong_room z places out tag r run.store.size w) (e.sound f run.store.sound) in
+      record { hands = h ∙ sym p; sized = refl; fits = f; runs = rw q run })
   host_call (write_ends {tag = tag} {r = r} {number = number} {bs = bs} e) =
-      let s = keeps_sound k places m run in
-      let l = e.sound f s in
-      let v = kept_write_verdict k places tag r bs in
-      let h = written k.records places tag r bs in
-      let got : Leaves v (held_in k places) h number (chosen v k places h) = record { numbered = l.numbered; left = refl } in
-      let next = (write_kept k places m run tag r number bs _ got).1 in
-      let (bytes, rest) = pair_chosen v k b places h l.left in
-      let (same, fits) = reload b f v (held_of k h) _ bytes (unless_made (held_of k) v (held_in k places) h) (keeps_storable next) in
-      told refl refl fits (rw (same, rest) (trace.write_ends (ruled_sound s got)))
+      let l = e.sound f run.store.sound in
+      let v = write_verdict z places tag r bs in
+      let h = written z places tag r bs in
+      let got : Leaves v (held z.tree z.node z.row places) h number (kept v z places h) = record { numbered = l.numbered; left = refl } in
+      let next = (write_call z places m run tag r number bs _ got).1 in
+      let (bytes, rest) = pair_chosen v z b places h l.left in
+      let (same, fits) = reload b f v (held_of z h) _ bytes (unless_made (held_of z) v (held z.tree z.node z.row places) h) (runs_storable next) in
+      told refl refl fits (rw (same, rest) (trace.write_ends (judged_sound run.store.sound got)))
   host_call (border_ends {tag = tag} {number = number} {done = done} {rows = rows} {bytes = bytes} e) =
-      let s = keeps_sound k places m run in
-      let l = e.sound f s in
-      let x = kept_bordered k places tag rows bytes in
+      let l = e.sound f run.store.sound in
+      let x = bordered z places tag rows bytes in
       let got : Ends x number done x.left = record { numbered = l.numbered; counted = l.counted; left = refl } in
-      let next = (border_kept k places m run tag rows bytes number done x.left got).1 in
-      let (same, fits) = reload_border b f x.done x.left (held_in k places) refl (border_none k tag places rows bytes) (ap (λ (p : List ℕ × List ℕ). p.0) l.left) (keeps_storable next) in
-      told refl refl fits (rw (same, ap (λ (p : List ℕ × List ℕ). p.1) l.left) (trace.border_ends (ruled_sound s got)))
+      let next = (border_call z places m run tag rows bytes number done x.left got).1 in
+      let (same, fits) = reload_border b f x.done x.left (held z.tree z.node z.row places) refl (bordered_none z places tag rows bytes) (ap (λ (p : List ℕ × List ℕ). p.0) l.left) (runs_storable next) in
+      told refl refl fits (rw (same, ap (λ (p : List ℕ × List ℕ). p.1) l.left) (trace.border_ends (judged_sound run.store.sound got)))
   host_call (delete_ends {tag = tag} {number = number} e) =
-      let s = keeps_sound k places m run in
-      let l = e.sound f s in
-      let v = kept_delete_verdict k tag in
-      let d = deleted k.records tag in
-      let got : Leaves v (left_in k) d number (unless v (λ x. left_in k) d) = record { numbered = l.numbered; left = refl } in
-      let next = (delete_kept k places m run tag number _ got).1 in
-      let (same, fits) = reload b f v (left_of k d) _ l.left (unless_made (left_of k) v (left_in k) d) (keeps_storable next) in
-      told refl refl fits (rw same (trace.delete_ends (ruled_sound s got)))
-  host_call (count_ends e) = let s = keeps_sound k places m run in told refl refl f (trace.count_ends (ruled_sound s (e.sound f s)))
-  host_call (release_ends {tag = tag} {number = number} e) =
-      let s = keeps_sound k places m run in
-      let l = e.sound f s in
-      let v = kept_release_verdict k tag in
-      let d = flagged k tag in
-      let got : Leaves v k.released d number (unless v (λ x. k.released) d) = record { numbered = l.numbered; left = refl } in
-      let next = (release_kept k places m run tag number _ got).1 in
-      let (same, fits) = reload b f v (state_flags k d places).kept _ l.left (unless_made (λ (x : List ℕ). (state_flags k x places).kept) v k.released d) (keeps_storable next) in
-      told refl refl fits (rw same (trace.release_ends (ruled_sound s got)))
+      let l = e.sound f run.store.sound in
+      let v = delete_verdict z tag in
+      let d = deleted z tag in
+      let got : Leaves v (left z.tree z.node z.row) d number (unless v (λ x. left z.tree z.node z.row) d) = record { numbered = l.numbered; left = refl } in
+      let next = (delete_call z places m run tag number _ got).1 in
+      let (same, fits) = reload b f v (left_of z d) _ l.left (unless_made (left_of z) v (left z.tree z.node z.row) d) (runs_storable next) in
+      told refl refl fits (rw same (trace.delete_ends (judged_sound run.store.sound got)))
+  host_call (count_ends e) = told refl refl f (trace.count_ends (judged_sound run.store.sound (e.sound f run.store.sound)))
 
 -- Any list of calls from C
 
 module _ (size : Size) where
-  pub host_list : {b places b' places' : List ℕ} {m : Model} {cs : List HostCall} {hs : List Answer} → Fits b → (loaded b).records.size ≡ size → Keeps (loaded b) places m → HostTrace b places cs hs b' places'
+  host_list : {b places b' places' : List ℕ} {m : Model} {cs : List HostCall} {hs : List Answer} → Fits b → (loaded b).size ≡ size → Runs (loaded b) places m → HostTrace b places cs hs b' places'
       → (hs ≡ host_answers size m cs) × Holds size b' places' (host_final size m cs)
   unfolding host_answers host_final
-  host_list f e run over = (refl, record { fits = f; equals = keeps_equal size _ _ e run })
+  host_list f e run over = (refl, record { fits = f; equals = runs_equal size _ _ e run })
   host_list {b} {places} {m = m} f e run (then {c = c} k rest) =
       let t = host_call b places m f run k in
-      let (hs, last) = host_list t.fits (t.sized ∙ e) (rw e at t.keeps) rest in
+      let (hs, last) = host_list t.fits (t.sized ∙ e) (rw e at t.runs) rest in
       (ap₂ ◌∷◌ (t.hands ∙ ap (λ (x : Size). host_answer x m c) e) hs, last)
 
 -- From an accepted opening
@@ -241,24 +220,23 @@ open_passed z b places e =
     let (c, e₂) = refusal_passed (not (eqb (length places) (z.places * z.width))) bad_length _ e₁ in
     (measure_in z (not-false _ a), eqb-true _ _ (not-false _ c))
 
-first_keeps : (z : Size) → Within z → Keeps (first_records z) (replicate (z.places * z.width) 0) (opened z)
-unfolding opened
-first_keeps z w = unflagged (first_records z).records (replicate (z.places * z.width) 0) (opened z) (replicate 128 0) refl (zeros 128) refl (record {
+first_runs : (z : Size) → Within z → Runs (first_records z) (replicate (z.places * z.width) 0) (opened z)
+first_runs z w = record {
   store = record { sound = first_sound z w (entries z) refl; size = length-replicate (z.places * z.width) 0 };
   whole = record { state = refl; tag = refl; parent = refl };
   agrees = open_agrees z w (entries z) refl;
-})
+}
 
-opened_keeps : (z : Size) (b places : List ℕ) {b' places' : List ℕ} → HostOpens z b places 0 (b', places') → Fits b' × ((loaded b').records.size ≡ z) × Keeps (loaded b') places' (opened z)
-opened_keeps z b places {b'} {places'} o = go (refusal (open_tests z (length b) (length places))) refl o
+opened_runs : (z : Size) (b places : List ℕ) {b' places' : List ℕ} → HostOpens z b places 0 (b', places') → Fits b' × ((loaded b').size ≡ z) × Runs (loaded b') places' (opened z)
+opened_runs z b places {b'} {places'} o = go (refusal (open_tests z (length b) (length places))) refl o
   where
     go : (v : Option Refusal) → refusal (open_tests z (length b) (length places)) ≡ v → Leaves {A = List ℕ × List ℕ} v (b, places) (stored (first_records z), replicate (length places) 0) 0 (b', places')
-        → Fits b' × ((loaded b').records.size ≡ z) × Keeps (loaded b') places' (opened z)
+        → Fits b' × ((loaded b').size ≡ z) × Runs (loaded b') places' (opened z)
     go (some x) e l = absurd (number_some x (sym l.numbered))
     go none e l =
         let (w, long) = open_passed z b places e in
-        let run = first_keeps z w in
-        let s = keeps_storable run in
+        let run = first_runs z w in
+        let s = runs_storable run in
         let bytes : b' ≡ stored (first_records z) = ap (λ (p : List ℕ × List ℕ). p.0) l.left in
         let rest : places' ≡ replicate (length places) 0 = ap (λ (p : List ℕ × List ℕ). p.1) l.left in
         rw (bytes, rest, long, loaded_stored (first_records z) s) (stored_fits (first_records z) s, refl, run)
@@ -266,21 +244,18 @@ opened_keeps z b places {b'} {places'} o = go (refusal (open_tests z (length b) 
 pub guarantee_opened : (z : Size) (b places b₀ places₀ : List ℕ) → HostOpens z b places 0 (b₀, places₀)
     → {cs : List HostCall} {hs : List Answer} {b' places' : List ℕ} → HostTrace b₀ places₀ cs hs b' places'
     → (hs ≡ host_answers z (opened z) cs) × Holds z b' places' (host_final z (opened z) cs)
-guarantee_opened z b places b₀ places₀ o t = let (f, e, run) = opened_keeps z b places o in host_list z f e run t
+guarantee_opened z b places b₀ places₀ o t = let (f, e, run) = opened_runs z b places o in host_list z f e run t
 
 -- From bytes of sound records, with P × B bytes of places
 
-pub loaded_whole : (b : List ℕ) → Fits b → WholeKept (loaded b)
+pub loaded_whole : (b : List ℕ) → Fits b → Whole (loaded b).tree
 unfolding loaded
-loaded_whole b f = record {
-  tree = record { state = long states_at 128 (omega (arith, f.long)); tag = numbers_size _ 128 (long tags_at 256 (omega (arith, f.long))); parent = long parents_at 128 (omega (arith, f.long)) };
-  flags = long released_at 128 (omega (arith, f.long));
-}
+loaded_whole b f = record { state = long states_at 128 (omega (arith, f.long)); tag = numbers_size _ 128 (long tags_at 256 (omega (arith, f.long))); parent = long parents_at 128 (omega (arith, f.long)) }
   where
     long : (from n : ℕ) → from + n ≤ length b → length (part from n b) ≡ n
     long from n l = length-take-le n (drop from b) (omega (arith, length-drop from b))
 
-pub guarantee_sound : (b places : List ℕ) → Fits b → StoreKept (loaded b) places
+pub guarantee_sound : (b places : List ℕ) → Fits b → Store (loaded b) places
     → {cs : List HostCall} {hs : List Answer} {b' places' : List ℕ} → HostTrace b places cs hs b' places'
-    → (hs ≡ host_answers (loaded b).records.size (started_kept (loaded b) places) cs) × Holds (loaded b).records.size b' places' (host_final (loaded b).records.size (started_kept (loaded b) places) cs)
-guarantee_sound b places f st t = host_list (loaded b).records.size f refl (start_kept (loaded b) places st (loaded_whole b f)) t
+    → (hs ≡ host_answers (loaded b).size (started (loaded b) places) cs) × Holds (loaded b).size b' places' (host_final (loaded b).size (started (loaded b) places) cs)
+guarantee_sound b places f st t = host_list (loaded b).size f refl (start_call (loaded b) places st (loaded_whole b f)) t

@@ -3,4 +3,3 @@ pub mod Called
 pub mod Guarantee
 pub mod Cases
 pub mod Untouched
-pub mod Released

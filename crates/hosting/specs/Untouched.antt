@@ -1,23 +1,23 @@
 -- A write from C of the bytes that the version reads there is accepted, and leaves every byte of what was lent; so does a border that did no row, as one does that is refused before its rows. Assumes nothing.
 use Rattle.std.proofs.Math.Path.{◌≡◌, refl, ap}
 use Rattle.std.proofs.Common.{sym, ◌∙◌, eq-eqb}
-use Rattle.std.specs.Prelude.{◌≢◌, true, false, length}
+use Rattle.std.specs.Prelude.{◌≢◌, true, length}
 use mathlib.Core.List.{List, [], ◌∷◌}
 use Rattle.std.proofs.Math.Option.{Option, none, some}
 use Prim.Native.Nat.{ℕ, ◌<◌}
 use Rattle.basics.specs.Decide.{at}
 use Rattle.records.specs.Records.{lives}
+use Rattle.records.specs.Sound.{Sound}
 use Rattle.answers.specs.Answers.{Refusal, Answer}
 use Rattle.answers.specs.Tests.{unless}
-use Rattle.soundness.specs.Judged.{Leaves}
+use Rattle.soundness.specs.Judged.{Leaves, judged_sound}
 use Rattle.reads.specs.Reads.{row_of_tag}
-use Rattle.writes.specs.Writing.{written}
+use Rattle.owning.specs.Owning.{held}
+use Rattle.writes.specs.Writing.{write_verdict, written}
 use Rattle.wrote.specs.Wrote.{written_as_read}
-use Rattle.kept.specs.Kept.{SoundKept, released_tag}
-use Rattle.kept.specs.Laws.{ruled_sound}
-use Rattle.store.specs.Store.{held_in, kept_write_verdict, kept_bordered}
-use Rattle.store.specs.Laws.{border_none}
-use Rattle.keeping.specs.Keeps.{StoreKept, started_kept}
+use Rattle.borders.specs.Bordering.{bordered}
+use Rattle.borders.specs.BorderingWays.{bordered_none}
+use Rattle.view.specs.View.{Store, started}
 use Rattle.model.specs.Call as on_records_lem
 use Rattle.model.specs.Model.{reply}
 use Rattle.theorem.specs.Trace.{over as no_more}
@@ -36,36 +36,37 @@ either_way none x = refl
 either_way (some r) x = refl
 
 -- bytes of a sound store, each below 256, whatever calls have left them
-module _ (b places : List ℕ) (f : Fits b) (low : (i : ℕ) → at b i < 256) (st : StoreKept (loaded b) places) where
+module _ (b places : List ℕ) (f : Fits b) (low : (i : ℕ) → at b i < 256) (st : Store (loaded b) places) where
   pub host_untouched : {tag r : ℕ} {bs b' places' : List ℕ} {h : Answer} → HostCallEnds b places (write tag r bs) h b' places'
-      → length bs ≡ (loaded b).records.size.width → r < (loaded b).records.size.rows → lives (loaded b).records tag ≡ true → released_tag (loaded b) tag ≡ false → bs ≡ row_of_tag (loaded b).records places tag r
+      → length bs ≡ (loaded b).size.width → r < (loaded b).size.rows → lives (loaded b) tag ≡ true → bs ≡ row_of_tag (loaded b) places tag r
       → (h.number ≡ 0) × (b' ≡ b) × (places' ≡ places)
   unfolding row_of_tag
-  host_untouched (write_ends {tag = tag} {r = r} {number = number} {bs = bs} {b' = b'} {places' = places'} e) long below a un same =
-      let k = loaded b in
+  host_untouched (write_ends {tag = tag} {r = r} {number = number} {bs = bs} {b' = b'} {places' = places'} e) long below a same =
+      let z = loaded b in
       let l = e.sound f st.sound in
-      let v = kept_write_verdict k places tag r bs in
-      let got : Leaves v (held_in k places) (written k.records places tag r bs) number (unless v (λ x. held_in k places) (written k.records places tag r bs)) = record { numbered = l.numbered; left = refl } in
-      let (n, s) = write_untouched st (loaded_whole b f) no_more (trace.write_ends (ruled_sound st.sound got)) long below a un same in
-      let left : ◌≡◌ {A = List ℕ × List ℕ} (b', places') (b, places) = l.left ∙ rw (written_as_read k.records places tag r bs same, stored_loaded b f low) (either_way v (b, places)) in
+      let v = write_verdict z places tag r bs in
+      let got : Leaves v (held z.tree z.node z.row places) (written z places tag r bs) number (unless v (λ x. held z.tree z.node z.row places) (written z places tag r bs)) =
+      record { numbered = l.numbered; left = refl } in
+      let (n, s) = write_untouched st (loaded_whole b f) no_more (trace.write_ends (judged_sound st.sound got)) long below a same in
+      let left : ◌≡◌ {A = List ℕ × List ℕ} (b', places') (b, places) = l.left ∙ rw (written_as_read z places tag r bs same, stored_loaded b f low) (either_way v (b, places)) in
       (n, ap (λ (p : List ℕ × List ℕ). p.0) left, ap (λ (p : List ℕ × List ℕ). p.1) left)
 
 -- of a border, whatever ended it
-pub host_none : {b places : List ℕ} {tag : ℕ} {rows bytes b' places' : List ℕ} {h : Answer} → Fits b → SoundKept (loaded b) → HostCallEnds b places (border tag rows bytes) h b' places' → h.numbers ≡ 0 ∷ []
+pub host_none : {b places : List ℕ} {tag : ℕ} {rows bytes b' places' : List ℕ} {h : Answer} → Fits b → Sound (loaded b) → HostCallEnds b places (border tag rows bytes) h b' places' → h.numbers ≡ 0 ∷ []
     → (b' ≡ b) × (places' ≡ places)
 host_none {b} {places} {tag} {rows} {bytes} {b'} {places'} f s (border_ends {done = done} e) none_done =
     let l = e.sound f s in
-    let n : (kept_bordered (loaded b) places tag rows bytes).done ≡ 0 = sym l.counted ∙ ap (λ (ns : List ℕ). at ns 0) none_done in
-    let kept : ◌≡◌ {A = Lent} (b', places') (b, places) = l.left ∙ rw (eq-eqb _ 0 n, border_none (loaded b) tag places rows bytes n) in
+    let n : (bordered (loaded b) places tag rows bytes).done ≡ 0 = sym l.counted ∙ ap (λ (ns : List ℕ). at ns 0) none_done in
+    let kept : ◌≡◌ {A = Lent} (b', places') (b, places) = l.left ∙ rw (eq-eqb _ 0 n, bordered_none (loaded b) places tag rows bytes n) in
     (ap (λ (p : Lent). p.0) kept, ap (λ (p : Lent). p.1) kept)
 
 -- with any refusal but 3 and 24, which are those of a row, it did none
-pub host_early : {b places : List ℕ} {tag : ℕ} {rows bytes b' places' : List ℕ} {h : Answer} → Fits b → StoreKept (loaded b) places → HostCallEnds b places (border tag rows bytes) h b' places'
+pub host_early : {b places : List ℕ} {tag : ℕ} {rows bytes b' places' : List ℕ} {h : Answer} → Fits b → Store (loaded b) places → HostCallEnds b places (border tag rows bytes) h b' places'
     → h.number ≢ 0 → h.number ≢ 3 → h.number ≢ 24 → (h.numbers ≡ 0 ∷ []) × (b' ≡ b) × (places' ≡ places)
 unfolding host_answer host_answers
-host_early {b} {places} {tag} {rows} {bytes} {h = h} f st c =
-    let k = loaded b in
-    let e = (guarantee_sound b places f st (then c over)).0 in
-    let told : h ≡ reply k.records.size (started_kept k places) (on_records_lem.border tag rows bytes) = cc in
-    let none_done : h.number ≢ 0 → h.number ≢ 3 → h.number ≢ 24 → h.numbers ≡ 0 ∷ [] = rw told (border_early k.records.size (started_kept k places) tag rows bytes) in
-    λ o p q. let n = none_done o p q in let (x, y) = host_none f st.sound c n in (n, x, y)
+host_early {b} {places} {tag} {rows} {bytes} {h = h} f st k =
+    let z = loaded b in
+    let e = (guarantee_sound b places f st (then k over)).0 in
+    let told : h ≡ reply z.size (started z places) (on_records_lem.border tag rows bytes) = cc in
+    let none_done : h.number ≢ 0 → h.number ≢ 3 → h.number ≢ 24 → h.numbers ≡ 0 ∷ [] = rw told (border_early z.size (started z places) tag rows bytes) in
+    λ o p q. let n = none_done o p q in let (x, y) = host_none f st.sound k n in (n, x, y)

@@ -1,69 +1,63 @@
--- Records and flags that are stored and loaded again are the same, and so are bytes that are loaded and stored again. Assumes nothing.
+-- Records that are stored and loaded again are the same, and so are bytes that are loaded and stored again. Assumes nothing.
 use Rattle.std.specs.Prelude.{◌≡◌, refl, List, [], ◌∷◌, ◌++◌, ℕ, zero, suc, ◌+◌, ◌*◌, ◌≤◌, ◌<◌, length, take, drop}
 use Rattle.std.proofs.Common.{sym, ◌∙◌, ap, append_assoc, arith, length-append, take-append-drop, take_at, drop_at, drop-drop, get_or-drop, length-take-le}
 use Rattle.std.proofs.Math.ListN.{length-drop}
 use Rattle.std.proofs.Math.Seq.{take_all}
 use Rattle.basics.specs.Decide.{at}
 use Rattle.measures.specs.Measures.{Within}
-use Rattle.kept.specs.Kept.{Kept}
+use Rattle.records.specs.Records.{Records}
 use Rattle.laying.specs.Laid.{twos, pairs, numbers, pair_at}
 use Rattle.laying.specs.Laws.{pairs_size, numbers_pairs, pairs_numbers}
-use Rattle.layout.specs.Layout.{states_at, parents_at, tags_at, released_at, table_at, entries, records_size, tree_bytes, table_bytes, stored, size_at, part, loaded, Fits}
+use Rattle.layout.specs.Layout.{states_at, parents_at, tags_at, table_at, entries, records_size, tree_bytes, table_bytes, stored, size_at, part, loaded, Fits}
 use Rattle.layout.specs.Laws.{tree_size, table_size, size_same}
 
--- records and flags of the right lengths
-pub record Storable (k : Kept) : Type 0 where
-  pub within : Within k.records.size
-  pub states : length k.records.tree.state ≡ 128
-  pub parents : length k.records.tree.parent ≡ 128
-  pub tags : length k.records.tree.tag ≡ 128
-  pub flags : length k.released ≡ 128
-  pub nodes : length k.records.node ≡ entries k.records.size
-  pub rows : length k.records.row ≡ entries k.records.size
+-- records of the right lengths
+pub record Storable (z : Records) : Type 0 where
+  pub within : Within z.size
+  pub states : length z.tree.state ≡ 128
+  pub parents : length z.tree.parent ≡ 128
+  pub tags : length z.tree.tag ≡ 128
+  pub nodes : length z.node ≡ entries z.size
+  pub rows : length z.row ≡ entries z.size
 
-pub stored_size : (k : Kept) → Storable k → length (stored k) ≡ records_size k.records.size
+pub stored_size : (z : Records) → Storable z → length (stored z) ≡ records_size z.size
 unfolding stored pairs twos
-stored_size k s = omega (
+stored_size z s = omega (
   arith,
-  length-append (tree_bytes k.records.tree) (k.released ++ table_bytes k.records.node k.records.row),
-  length-append k.released (table_bytes k.records.node k.records.row),
-  tree_size k.records.tree s.states s.parents s.tags,
-  table_size k.records.node k.records.row,
-  s.flags,
+  length-append (tree_bytes z.tree) (table_bytes z.node z.row),
+  tree_size z.tree s.states s.parents s.tags,
+  table_size z.node z.row,
   s.nodes,
   s.rows,
 )
 
-pub stored_measures : (k : Kept) → size_at (stored k) ≡ k.records.size
+pub stored_measures : (z : Records) → size_at (stored z) ≡ z.size
 unfolding stored pairs twos
-stored_measures k = size_same (omega arith) (omega arith) (omega arith)
+stored_measures z = size_same (omega arith) (omega arith) (omega arith)
 
 -- where a part begins it is read, and behind it comes the rest
 read : (b p rest : List ℕ) (from n : ℕ) → drop from b ≡ p ++ rest → length p ≡ n → (part from n b ≡ p) × (drop (from + n) b ≡ rest)
 read b p rest from n e l = (rw e (take_at p rest n l), sym (drop-drop n from b) ∙ rw e (drop_at p rest n l))
 
 -- the parts behind the measures, one after the other
-behind : (k : Kept) → (let z = k.records in drop states_at (stored k) ≡ z.tree.state ++ (z.tree.parent ++ (pairs z.tree.tag ++ (k.released ++ (z.node ++ pairs z.row)))))
+behind : (z : Records) → drop states_at (stored z) ≡ z.tree.state ++ (z.tree.parent ++ (pairs z.tree.tag ++ (z.node ++ pairs z.row)))
 unfolding stored tree_bytes table_bytes pairs twos
-behind k = rw (append_assoc, append_assoc)
+behind z = rw (append_assoc, append_assoc)
 
-pub loaded_stored : (k : Kept) → Storable k → loaded (stored k) ≡ k
+pub loaded_stored : (z : Records) → Storable z → loaded (stored z) ≡ z
 unfolding loaded
-loaded_stored k s =
-    let z = k.records in
-    let state = read (stored k) z.tree.state _ states_at 128 (behind k) s.states in
-    let parent = read (stored k) z.tree.parent _ parents_at 128 state.1 s.parents in
-    let tag = read (stored k) (pairs z.tree.tag) _ tags_at 256 parent.1 (omega (arith, pairs_size z.tree.tag, s.tags)) in
-    let flag = read (stored k) k.released _ released_at 128 tag.1 s.flags in
-    let node = read (stored k) z.node _ table_at (entries z.size) flag.1 s.nodes in
+loaded_stored z s =
+    let state = read (stored z) z.tree.state _ states_at 128 (behind z) s.states in
+    let parent = read (stored z) z.tree.parent _ parents_at 128 state.1 s.parents in
+    let tag = read (stored z) (pairs z.tree.tag) _ tags_at 256 parent.1 (omega (arith, pairs_size z.tree.tag, s.tags)) in
+    let node = read (stored z) z.node _ table_at (entries z.size) tag.1 s.nodes in
     let row = take_all (2 * entries z.size) (pairs z.row) (omega (arith, pairs_size z.row, s.rows)) in
     rw (
-      stored_measures k,
-      ap entries (stored_measures k),
+      stored_measures z,
+      ap entries (stored_measures z),
       state.0,
       parent.0,
       tag.0,
-      flag.0,
       node.0,
       node.1,
       row,
@@ -71,10 +65,10 @@ loaded_stored k s =
       numbers_pairs z.row,
     )
 
-pub stored_fits : (k : Kept) → Storable k → Fits (stored k)
-stored_fits k s = record {
-  within = rw (stored_measures k) s.within;
-  long = stored_size k s ∙ ap records_size (sym (stored_measures k));
+pub stored_fits : (z : Records) → Storable z → Fits (stored z)
+stored_fits z s = record {
+  within = rw (stored_measures z) s.within;
+  long = stored_size z s ∙ ap records_size (sym (stored_measures z));
 }
 
 -- Bytes, each below 256, as many as their measures say
@@ -97,9 +91,9 @@ measures (c ∷ d ∷ e ∷ f ∷ g ∷ []) l = absurd (omega (arith, l))
 measures (c ∷ d ∷ e ∷ f ∷ g ∷ h ∷ b) l = refl
 
 -- parts one behind the other, each joined to the rest
-whole : {h h' : List ℕ} (s p : List ℕ) {g g' : List ℕ} (f n : List ℕ) {r r' d₁ d₂ d₃ d₄ d₅ b : List ℕ} → h' ≡ h → g' ≡ g → r' ≡ r → n ++ r ≡ d₅ → f ++ d₅ ≡ d₄ → g ++ d₄ ≡ d₃ → p ++ d₃ ≡ d₂ → s ++ d₂ ≡ d₁
-    → h ++ d₁ ≡ b → h' ++ ((s ++ (p ++ g')) ++ (f ++ (n ++ r'))) ≡ b
-whole s p {g} f n {d₄ = d₄} x y z i j k l m o = rw (x, y, z, i, j, append_assoc s (p ++ g) d₄, append_assoc p g d₄, k, l, m) o
+whole : {h h' : List ℕ} (s p : List ℕ) {g g' : List ℕ} (n : List ℕ) {r r' d₁ d₂ d₃ d₄ b : List ℕ} → h' ≡ h → g' ≡ g → r' ≡ r → n ++ r ≡ d₄ → g ++ d₄ ≡ d₃ → p ++ d₃ ≡ d₂ → s ++ d₂ ≡ d₁ → h ++ d₁ ≡ b
+    → h' ++ ((s ++ (p ++ g')) ++ (n ++ r')) ≡ b
+whole s p {g} n {d₄ = d₄} x y z i j k l m = rw (x, y, z, i, append_assoc s (p ++ g) d₄, append_assoc p g d₄, j, k, l) m
 
 module _ (b : List ℕ) (f : Fits b) (low : (i : ℕ) → at b i < 256) where
   abbrev n : ℕ
@@ -116,12 +110,11 @@ module _ (b : List ℕ) (f : Fits b) (low : (i : ℕ) → at b i < 256) where
 
   pub stored_loaded : stored (loaded b) ≡ b
   unfolding stored loaded tree_bytes table_bytes
-  stored_loaded = whole (part states_at 128 b) (part parents_at 128 b) (part released_at 128 b) (part table_at n b)
+  stored_loaded = whole (part states_at 128 b) (part parents_at 128 b) (part table_at n b)
       (ap pairs (measures b (omega (arith, f.long))) ∙ pair_part 0 3 (omega (arith, f.long)))
       (pair_part tags_at 128 (omega (arith, f.long)))
       (pair_part (table_at + n) n (omega (arith, f.long)) ∙ take_all (2 * n) (drop (table_at + n) b) (omega (arith, f.long, length-drop (table_at + n) b)))
       (joined table_at n)
-      (joined released_at 128)
       (joined tags_at 256)
       (joined parents_at 128)
       (joined states_at 128)

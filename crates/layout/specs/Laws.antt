@@ -1,13 +1,13 @@
--- Laws of the layout: how long its parts are, what is laid part by part, and what is read back. Assumes nothing.
+-- Laws of the layout: how long its parts are, and what is laid part by part is the whole. Assumes nothing.
 use Rattle.std.specs.Prelude.{◌≡◌, List, [], ◌∷◌, ◌++◌, ℕ, ◌+◌, ◌-◌, ◌*◌, length, take, drop}
-use Rattle.std.proofs.Common.{ap, append-nil, arith, length-append, drop_of_length-le}
+use Rattle.std.proofs.Common.{◌∙◌, ap, append-nil, arith, length-append, drop_of_length-le}
 use Rattle.measures.specs.declared.Size.{Size}
 use Rattle.trees.specs.declared.Tree.{Tree}
 use Rattle.trees.specs.Trees.{tree_of}
-use Rattle.records.specs.Records.{records_of}
+use Rattle.records.specs.Records.{Records, records_of}
 use Rattle.laying.specs.Laid.{laid, Lays, pairs, numbers}
-use Rattle.laying.specs.Laws.{lays_then, pairs_size}
-use Rattle.layout.specs.Layout.{table_at, entries, records_size, tree_bytes, table_bytes, size_at, tree_at, nodes_at, loaded}
+use Rattle.laying.specs.Laws.{lays_then, lays_as, pairs_size}
+use Rattle.layout.specs.Layout.{table_at, entries, records_size, tree_bytes, table_bytes, stored, size_at, tree_at, nodes_at, loaded}
 
 -- Lengths
 
@@ -26,6 +26,10 @@ pub tree_laid : (t : Tree) {b : List ℕ} {p : ℕ} {a₁ a₂ a : List ℕ} {to
 unfolding tree_bytes
 tree_laid t s p g x y z = let l = lays_then x (lays_then y z) in (l, omega (arith, l.ends, tree_size t s p g))
 
+pub table_laid : (node row : List ℕ) {b : List ℕ} {p : ℕ} {a₁ a : List ℕ} {to₁ to : ℕ} → Lays b p node a₁ to₁ → Lays a₁ to₁ (pairs row) a to → Lays b p (table_bytes node row) a to
+unfolding table_bytes
+table_laid node row x y = lays_then x y
+
 -- what is laid from the front to the end is all
 pub laid_all : (b t : List ℕ) → length t ≡ length b → laid b 0 t ≡ t
 unfolding laid
@@ -33,6 +37,15 @@ laid_all b t e = let n : 0 + length t ≡ length b = omega (arith, e) in rw (n, 
 
 pub head_ends : (size : Size) {xs b : List ℕ} {p : ℕ} {a : List ℕ} {to : ℕ} → xs ≡ (size.rows ∷ size.width ∷ size.places ∷ []) → Lays b p (pairs xs) a to → (to ≡ p + 6) × (length a ≡ length b)
 head_ends size {xs} e l = let n : length xs ≡ 3 = ap length e in (omega (arith, l.ends, n, pairs_size xs), l.size)
+
+module _ (z : Records) where
+  pub records_laid : {xs b : List ℕ} {a₁ a₂ a : List ℕ} {to₁ to₂ to : ℕ} → xs ≡ (z.size.rows ∷ z.size.width ∷ z.size.places ∷ [])
+      → length b ≡ records_size z.size → length z.node ≡ entries z.size → length z.row ≡ entries z.size
+      → Lays b 0 (pairs xs) a₁ to₁ → Lays a₁ to₁ (tree_bytes z.tree) a₂ to₂ × (to₂ ≡ to₁ + 512) → Lays a₂ to₂ (table_bytes z.node z.row) a to → a ≡ stored z
+  unfolding stored
+  records_laid {xs} {b} e l n r x y w =
+      let all = lays_then (lays_as (ap pairs e) x) (lays_then y.0 w) in
+      all.whole ∙ laid_all b _ (omega (arith, all.ends, w.ends, y.1, (head_ends z.size e x).0, table_size z.node z.row, n, r, l))
 
 -- Measures and parts that are read back
 
@@ -44,7 +57,7 @@ tree_same e f h = λ i. tree_of (e i) (h i) (f i)
 
 -- the rows, where the tree is read by itself and the nodes lie where they are
 pub load_same : (b : List ℕ) {n : ℕ} {t : Tree} {row : List ℕ} → n ≡ entries (size_at b) → length b ≡ records_size (size_at b)
-    → t ≡ tree_at b → row ≡ numbers (take (length b - (table_at + n)) (drop (table_at + n) b)) → records_of (size_at b) t (nodes_at b) row ≡ (loaded b).records
+    → t ≡ tree_at b → row ≡ numbers (take (length b - (table_at + n)) (drop (table_at + n) b)) → records_of (size_at b) t (nodes_at b) row ≡ loaded b
 unfolding loaded
 load_same b {n} e l t r =
     let k : length b - (table_at + entries (size_at b)) ≡ 2 * entries (size_at b) = omega (arith, l) in

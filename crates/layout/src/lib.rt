@@ -13,9 +13,7 @@ pub const PARENTS_AT: usize = STATES_AT + 128;
 
 pub const TAGS_AT: usize = PARENTS_AT + 128;
 
-pub const RELEASED_AT: usize = TAGS_AT + 256;
-
-pub const TABLE_AT: usize = RELEASED_AT + 128;
+pub const TABLE_AT: usize = TAGS_AT + 256;
 
 // The measures that the bytes begin with.
 pub fn size(records: &[u8]) -> Size

@@ -3,9 +3,9 @@ use Rattle.std.specs.Prelude.{◌≡◌, refl, Bool, true, false, cond, List, []
 use Rattle.std.proofs.Common.{sym, ◌∙◌, ap, subst, append_assoc, append-nil, mul-le-mul_left, arith}
 use Rattle.std.proofs.Math.Nat as nat
 use Rattle.measures.specs.declared.Size.{Size}
-use Rattle.kept.specs.Kept.{Kept}
+use Rattle.records.specs.Records.{Records}
 use Rattle.model.specs.Model.{Model, final}
-use Rattle.keeping.specs.Keeps.{Keeps}
+use Rattle.steps.specs.Calls.{Runs}
 use Rattle.theorem.specs.Trace.{state, left_by}
 use Rattle.laying.specs.Laid.{Lays}
 use Rattle.laying.specs.Laws.{lays_none, lays_then, lays_as}
@@ -15,7 +15,7 @@ use Rattle.progress.specs.declared.Progress.{Progress}
 use Rattle.lines.specs.Lines.{text_from}
 use Rattle.lines.specs.Output.{output, last_model, RanAll}
 use Rattle.lines.specs.Turns.{Ready, reached, Turned}
-use Rattle.progress.specs.Replying.{line_room, kept_in}
+use Rattle.progress.specs.Replying.{line_room, records_in}
 use Rattle.lines.specs.TurnLaws.{text_over, final_over, left_over}
 
 -- a run at its start, with room for every line
@@ -29,15 +29,15 @@ pub record Begins (width : ℕ) (first : Progress) (s out : List ℕ) : Type 0 w
 -- the whole stream, for every model that agreed at the start
 pub record Through (first : Progress) (node row places s out : List ℕ) (r : Progress) (node' row' places' out' : List ℕ) : Type 0 where
   pub sized : r.size ≡ first.size
-  pub goes : (m : Model) → Keeps (kept_in first node row) places m → RanAll (kept_in first node row) places s out (kept_in r node' row') places' out' r.end m
+  pub goes : (m : Model) → Runs (records_in first node row) places m → RanAll (records_in first node row) places s out (records_in r node' row') places' out' r.end m
 
 -- what a run has yet to do: it ends, or a command is passed
 abbrev pub to_go : List ℕ → Progress → ℕ → ℕ
 to_go s run at = cond run.going (suc (length s - at)) 0
 
 module _ (first : Progress) (node row places s out : List ℕ) where
-  abbrev k : Kept
-  k = kept_in first node row
+  abbrev z : Records
+  z = records_in first node row
 
   abbrev w : ℕ
   w = first.size.width
@@ -47,12 +47,12 @@ module _ (first : Progress) (node row places s out : List ℕ) where
     pub most : ℕ
     pub enough : length s ≤ p + most
     pub model : Model
-    pub keeps : Keeps (kept_in run nodeₚ rowₚ) placesₚ model
+    pub runs : Runs (records_in run nodeₚ rowₚ) placesₚ model
     pub text : List ℕ
     pub lays : Lays out 0 text outₚ run.end
     pub says : output first.size s m ≡ text ++ text_from first.size s most run.line model p
     pub lasts : last_model first.size s m ≡ final first.size model (calls_from w s most p)
-    pub leaves : left_by (state k places) (calls w s) ≡ left_by (state (kept_in run nodeₚ rowₚ) placesₚ) (calls_from w s most p)
+    pub leaves : left_by (state z places) (calls w s) ≡ left_by (state (records_in run nodeₚ rowₚ) placesₚ) (calls_from w s most p)
 
   pub record Going (run : Progress) (nodeₚ rowₚ placesₚ outₚ : List ℕ) (p : ℕ) : Type 0 where
     pub room : run.end ≤ line_room w * p
@@ -60,7 +60,7 @@ module _ (first : Progress) (node row places s out : List ℕ) where
     pub inside : p ≤ length s
     pub long : length outₚ ≡ length out
     pub same : run.size ≡ first.size
-    pub goes : (m : Model) → Keeps k places m → Gone run nodeₚ rowₚ placesₚ outₚ p m
+    pub goes : (m : Model) → Runs z places m → Gone run nodeₚ rowₚ placesₚ outₚ p m
 
   pub going_start : {width : ℕ} → Begins width first s out → Going first node row places out (reached s first 0)
   going_start b =
@@ -75,7 +75,7 @@ module _ (first : Progress) (node row places s out : List ℕ) where
           most = length s;
           enough = omega arith;
           model = m;
-          keeps = run;
+          runs = run;
           text = [];
           lays = rw e (lays_none out 0 (omega arith));
           says = rw l;
@@ -112,19 +112,19 @@ module _ (first : Progress) (node row places s out : List ℕ) where
       gone_next : {m : Model} → Gone run nodeₚ rowₚ placesₚ outₚ at m → Gone r nodeₙ rowₙ placesₙ outₙ (reached s r next) m
       gone_next {m} v =
           let e = gᵢ.same in
-          let q = t.serves v.model v.keeps in
+          let q = t.serves v.model v.runs in
           let wide : run.size.width ≡ w = ap (λ (x : Size). x.width) e in
           let o = q.rest v.most v.enough in
           record {
             most = o.left;
             enough = o.enough;
             model = q.model;
-            keeps = q.keeps;
+            runs = q.runs;
             text = v.text ++ q.text;
             lays = lays_then v.lays q.lays;
             says = v.says ∙ rw (rw e at o.says) (sym (append_assoc v.text q.text _));
             lasts = v.lasts ∙ (rw e at o.lasts);
-            leaves = v.leaves ∙ subst (λ (x : ℕ). left_by (state (kept_in run nodeₚ rowₚ) placesₚ) (calls_from x s v.most at) ≡ left_by (state (kept_in r nodeₙ rowₙ) placesₙ) (calls_from x s o.left (reached s r next))) wide o.leaves;
+            leaves = v.leaves ∙ subst (λ (x : ℕ). left_by (state (records_in run nodeₚ rowₚ) placesₚ) (calls_from x s v.most at) ≡ left_by (state (records_in r nodeₙ rowₙ) placesₙ) (calls_from x s o.left (reached s r next))) wide o.leaves;
           }
 
       ends_inside : (b : Bool) → r.going ≡ b → reached s r next ≤ length s
@@ -163,6 +163,6 @@ module _ (first : Progress) (node row places s out : List ℕ) where
             record {
               lays = lays_as (sym (v.says ∙ rw (text_over first.size s v.most run.line v.model) (append-nil v.text))) v.lays;
               leaves = sym (v.leaves ∙ left_over first.size s v.most _);
-              keeps = rw (v.lasts ∙ final_over first.size s v.most v.model) v.keeps;
+              runs = rw (v.lasts ∙ final_over first.size s v.most v.model) v.runs;
             };
       }

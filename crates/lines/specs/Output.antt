@@ -1,10 +1,10 @@
 -- What a whole stream of commands gets for text, and what it leaves of the store. Definitions only. Assumes nothing.
 use Rattle.std.specs.Prelude.{◌≡◌, List, ℕ, length}
 use Rattle.measures.specs.declared.Size.{Size}
-use Rattle.kept.specs.Kept.{Kept}
+use Rattle.records.specs.Records.{Records}
 use Rattle.model.specs.Model.{Model, final}
 use Rattle.theorem.specs.Trace.{state, left_by}
-use Rattle.keeping.specs.Keeps.{Keeps}
+use Rattle.steps.specs.Calls.{Runs}
 use Rattle.laying.specs.Laid.{Lays}
 use Rattle.commands.specs.Format.{calls}
 use Rattle.lines.specs.Lines.{text_from}
@@ -17,9 +17,9 @@ module _ (z : Size) (s : List ℕ) where
   abbrev pub last_model : Model → Model
   last_model m = final z m (calls z.width s)
 
--- A whole stream: its output was laid at the front; records, flags and places are those that its calls leave, one after the other, to the last byte; and
+-- A whole stream: its output was laid at the front; records and places are those that its calls leave, one after the other, to the last byte; and
 -- the store is one that the last model has
-pub record RanAll (k : Kept) (places s out : List ℕ) (k' : Kept) (places' out' : List ℕ) (to : ℕ) (m : Model) : Type 0 where
-  pub lays : Lays out 0 (output k.records.size s m) out' to
-  pub leaves : state k' places' ≡ left_by (state k places) (calls k.records.size.width s)
-  pub keeps : Keeps k' places' (last_model k.records.size s m)
+pub record RanAll (z : Records) (places s out : List ℕ) (z' : Records) (places' out' : List ℕ) (to : ℕ) (m : Model) : Type 0 where
+  pub lays : Lays out 0 (output z.size s m) out' to
+  pub leaves : state z' places' ≡ left_by (state z places) (calls z.size.width s)
+  pub runs : Runs z' places' (last_model z.size s m)

@@ -3,13 +3,10 @@ use Rattle.std.specs.Prelude.{◌≡◌, List, ℕ, ◌*◌, ◌≤◌, ◌<◌,
 use Rattle.std.proofs.Common.{◌∙◌, arith, lt-ltb, le-ltb}
 use Rattle.std.proofs.Math.Option.{none}
 use Rattle.trees.specs.declared.Tree.{Tree}
-use Rattle.records.specs.Records.{records_of}
-use Rattle.kept.specs.Kept.{Kept, kept}
-use Rattle.store.specs.Store.{StoreOpens}
+use Rattle.records.specs.Records.{Records, records_of}
 use Rattle.answers.specs.Tests.{refusal, open_tests, in_measure}
-use Rattle.opening.specs.Opening.{open_verdict}
-use Rattle.keeping.specs.Begins.{open_kept}
-use Rattle.keeping.specs.Calls.{keeps_sound}
+use Rattle.opening.specs.Opening.{open_verdict, Opening}
+use Rattle.steps.specs.Begins.{open_call}
 use Rattle.text.specs.Text.{line, dash, shown, answer_line}
 use Rattle.laying.specs.Laid.{Lays}
 use Rattle.lines.specs.Streams.{run_tests, StreamEnds}
@@ -29,12 +26,12 @@ unfolding open_verdict refusal open_tests in_measure
 opens places node row p n r = rw (p, n, r)
 
 -- and a run on what the opening left answers as the opened model
-pub program_serves : {places node row places₁ node₁ row₁ : List ℕ} {number : ℕ} {tree : Tree} {flags s out : List ℕ} {answer : ℕ} {k' : Kept} {places' out' : List ℕ} {end : ℕ}
-    → length places ≡ 48 → length node ≡ 2 → length row ≡ 2 → StoreOpens program_size places node row number tree flags places₁ node₁ row₁
-    → length s ≤ 4096 → 147456 ≤ length out → StreamEnds (kept (records_of program_size tree node₁ row₁) flags) places₁ s out answer k' places' out' end → Lays out 0 (served s) out' end
+pub program_serves : {places node row places₁ node₁ row₁ : List ℕ} {number : ℕ} {tree : Tree} {s out : List ℕ} {answer : ℕ} {z' : Records} {places' out' : List ℕ} {end : ℕ}
+    → length places ≡ 48 → length node ≡ 2 → length row ≡ 2 → Opening program_size places node row number tree places₁ node₁ row₁
+    → length s ≤ 4096 → 147456 ≤ length out → StreamEnds (records_of program_size tree node₁ row₁) places₁ s out answer z' places' out' end → Lays out 0 (served s) out' end
 unfolding served run_tests refusal
-program_serves {places} {node} {row} {places₁} {node₁} {row₁} {number} {tree} {flags} {s} {out} {answer} p n r o l m e =
-    let run = (open_kept program_size places node row number tree flags places₁ node₁ row₁ o (opens places node row p n r)).1 in
-    let d = e.sound (keeps_sound _ _ _ run) in
-    let fits : answer ≡ 0 = d.number ∙ rw (run.runs.store.size, le-ltb 4096 (length s) l, le-ltb (length out) (36 * length s) (omega (arith, l, m))) in
+program_serves {places} {node} {row} {places₁} {node₁} {row₁} {number} {tree} {s} {out} {answer} p n r o l m e =
+    let run = (open_call program_size places node row number tree places₁ node₁ row₁ o (opens places node row p n r)).1 in
+    let d = e.sound run.store.sound in
+    let fits : answer ≡ 0 = d.number ∙ rw (run.store.size, le-ltb 4096 (length s) l, le-ltb (length out) (36 * length s) (omega (arith, l, m))) in
     (d.accepted fits _ run).lays

@@ -9,13 +9,12 @@ use Rattle.std.proofs.Math.Nat.{mul-suc, mul-le-mul_left}
 use native.Mathlib.Omega.{arith}
 use Rattle.std.proofs.Math.ListN.{length}
 use Rattle.measures.specs.declared.Size.{Size}
-use Rattle.kept.specs.Kept.{Kept}
+use Rattle.records.specs.Records.{Records}
 use Rattle.answers.specs.Answers.{Refusal, Answer, refused, number}
 use Rattle.answers.specs.Laws.{number_some}
 use Rattle.model.specs.Call.{Call}
 use Rattle.model.specs.Model.{Model, answers, final, reply, next as model_after}
-use Rattle.keeping.specs.Keeps.{Keeps}
-use Rattle.keeping.specs.Calls.{keeps_sound}
+use Rattle.steps.specs.Calls.{Runs}
 use Rattle.theorem.specs.Trace.{State, state, CallEnds, left_by}
 use Rattle.theorem.specs.Theorem.{one_call}
 use Rattle.theorem.specs.Leaving.{call_leaves}
@@ -30,7 +29,7 @@ use Rattle.commands.specs.Format.{refusal_of, changes, step_at, call_at, calls_f
 use Rattle.commands.specs.Laws.{stands, step_over, call_next, call_inside, not_over, step_number, write_inside}
 use Rattle.progress.specs.declared.Progress.{Progress}
 use Rattle.lines.specs.Lines.{numbered, end_line, text_from}
-use Rattle.progress.specs.Replying.{line_room, kept_in, stopped, Room, Answered, Stopped}
+use Rattle.progress.specs.Replying.{line_room, records_in, stopped, Room, Answered, Stopped}
 use Rattle.lines.specs.Turns.{Ready, Onward, Turned}
 
 -- The calls from a position on: one and the rest, or none
@@ -93,15 +92,12 @@ module _ (z : Size) (s : List ℕ) where
 
 -- What is left of a stream, behind a call and at the end
 
-module _ (k : Kept) (places s : List ℕ) (p i : ℕ) (m : Model) where
-  abbrev z : Size
-  z = k.records.size
-
+module _ (z : Records) (places s : List ℕ) (p k : ℕ) (m : Model) where
   abbrev w : ℕ
-  w = z.width
+  w = z.size.width
 
-  after_call : {c : Call} {h : Answer} {k' : Kept} {places' : List ℕ} → call_at w s p (step_at w s p).command ≡ some c → Keeps k places m → CallEnds k places c h (state k' places')
-      → (n : ℕ) → length s ≤ p + n → Onward k places s p i m (answer_line i (reply z m c)) k' places' (step_at w s p).next (i + 1) (model_after z m c) n
+  after_call : {c : Call} {h : Answer} {z' : Records} {places' : List ℕ} → call_at w s p (step_at w s p).command ≡ some c → Runs z places m → CallEnds z places c h (state z' places')
+      → (n : ℕ) → length s ≤ p + n → Onward z places s p k m (answer_line k (reply z.size m c)) z' places' (step_at w s p).next (k + 1) (model_after z.size m c) n
   unfolding final left_by
   after_call e run ends zero l = absurd (omega (arith, l, call_next w s p e, call_inside w s p e))
   after_call {c} e run ends (suc n) l =
@@ -109,20 +105,20 @@ module _ (k : Kept) (places s : List ℕ) (p i : ℕ) (m : Model) where
       record {
         left = n;
         enough = omega (arith, l, call_next w s p e);
-        says = text_call z s n i m p _ c e refl;
+        says = text_call z.size s n k m p _ c e refl;
         lasts = rw f;
-        leaves = rw (f, call_leaves (keeps_sound k places m run) ends);
+        leaves = rw (f, call_leaves run.store.sound ends);
       }
 
-  at_end : {d : Command} {text : List ℕ} {i' : ℕ} → (step_at w s p).command ≡ d → call_at w s p d ≡ none → end_line i (refusal_of d) ≡ text
-      → (n : ℕ) → length s ≤ p + n → Onward k places s p i m text k places (length s) i' m n
+  at_end : {d : Command} {text : List ℕ} {k' : ℕ} → (step_at w s p).command ≡ d → call_at w s p d ≡ none → end_line k (refusal_of d) ≡ text
+      → (n : ℕ) → length s ≤ p + n → Onward z places s p k m text z places (length s) k' m n
   unfolding final left_by calls_from
-  at_end {text = text} {i' = i'} e f t n l =
+  at_end {text = text} {k' = k'} e f t n l =
       let g = calls_none w s p n (rw (sym e) at f) in
       record {
         left = 0;
         enough = omega arith;
-        says = text_end z s n i m p l e f ∙ t ∙ sym (rw (text_none z s i' m (length s)) (append-nil text));
+        says = text_end z.size s n k m p l e f ∙ t ∙ sym (rw (text_none z.size s k' m (length s)) (append-nil text));
         lasts = rw g;
         leaves = rw g;
       }
@@ -150,10 +146,10 @@ module _ {run : Progress} {node row places s : List ℕ} {p : ℕ} {out : List �
             let (g, i, next) = one_call u y.ends in
             record {
               model = model_after run.size m c;
-              keeps = next;
+              runs = next;
               text = answer_line run.line (reply run.size m c);
               lays = lays_as (answer_line_lem run.line g) y.lays;
-              rest = after_call (kept_in run node row) places s p run.line m e u y.ends;
+              rest = after_call (records_in run node row) places s p run.line m e u y.ends;
             };
       })
 
@@ -174,10 +170,10 @@ module _ {run : Progress} {node row places s : List ℕ} {p : ℕ} {out : List �
     few = omega (arith, l);
     serves = λ m u. record {
       model = m;
-      keeps = u;
+      runs = u;
       text = _;
       lays = y;
-      rest = at_end (kept_in run node row) places s p run.line m e f t;
+      rest = at_end (records_in run node row) places s p run.line m e f t;
     };
   }
 

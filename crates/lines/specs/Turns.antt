@@ -1,14 +1,14 @@
 -- One turn of a run: a call and its line, or the end. Definitions only. Assumes nothing.
 use Rattle.std.specs.Prelude.{◌≡◌, true, cond, List, ◌++◌, ℕ, ◌+◌, ◌*◌, ◌≤◌, ◌<◌, length}
-use Rattle.kept.specs.Kept.{Kept}
+use Rattle.records.specs.Records.{Records}
 use Rattle.model.specs.Model.{Model, final}
 use Rattle.theorem.specs.Trace.{state, left_by}
-use Rattle.keeping.specs.Keeps.{Keeps}
+use Rattle.steps.specs.Calls.{Runs}
 use Rattle.laying.specs.Laid.{Lays}
 use Rattle.commands.specs.declared.Step.{Step}
 use Rattle.commands.specs.Format.{step_at, calls_from}
 use Rattle.progress.specs.declared.Progress.{Progress}
-use Rattle.progress.specs.Replying.{line_room, kept_in, Room}
+use Rattle.progress.specs.Replying.{line_room, records_in, Room}
 use Rattle.lines.specs.Lines.{text_from}
 
 -- what stands at a position was read there, and its line has room
@@ -24,20 +24,20 @@ abbrev pub reached : List ℕ → Progress → ℕ → ℕ
 reached s run next = cond run.going next (length s)
 
 -- what is left of the text, of the model's calls and of the store's is that of the rest of the stream
-pub record Onward (k : Kept) (places s : List ℕ) (p i : ℕ) (m : Model) (text : List ℕ) (k' : Kept) (places' : List ℕ) (next i' : ℕ) (m' : Model) (n : ℕ) : Type 0 where
+pub record Onward (z : Records) (places s : List ℕ) (p k : ℕ) (m : Model) (text : List ℕ) (z' : Records) (places' : List ℕ) (next k' : ℕ) (m' : Model) (n : ℕ) : Type 0 where
   pub left : ℕ
   pub enough : length s ≤ next + left
-  pub says : text_from k.records.size s n i m p ≡ text ++ text_from k.records.size s left i' m' next
-  pub lasts : final k.records.size m (calls_from k.records.size.width s n p) ≡ final k.records.size m' (calls_from k.records.size.width s left next)
-  pub leaves : left_by (state k places) (calls_from k.records.size.width s n p) ≡ left_by (state k' places') (calls_from k.records.size.width s left next)
+  pub says : text_from z.size s n k m p ≡ text ++ text_from z.size s left k' m' next
+  pub lasts : final z.size m (calls_from z.size.width s n p) ≡ final z.size m' (calls_from z.size.width s left next)
+  pub leaves : left_by (state z places) (calls_from z.size.width s n p) ≡ left_by (state z' places') (calls_from z.size.width s left next)
 
 -- for a model that agreed before: the model after it, and what was laid
-pub record Served (k : Kept) (places s : List ℕ) (p i : ℕ) (m : Model) (out : List ℕ) (from : ℕ) (k' : Kept) (places' out' : List ℕ) (next i' to : ℕ) : Type 0 where
+pub record Served (z : Records) (places s : List ℕ) (p k : ℕ) (m : Model) (out : List ℕ) (from : ℕ) (z' : Records) (places' out' : List ℕ) (next k' to : ℕ) : Type 0 where
   pub model : Model
-  pub keeps : Keeps k' places' model
+  pub runs : Runs z' places' model
   pub text : List ℕ
   pub lays : Lays out from text out' to
-  pub rest : (n : ℕ) → length s ≤ p + n → Onward k places s p i m text k' places' next i' model n
+  pub rest : (n : ℕ) → length s ≤ p + n → Onward z places s p k m text z' places' next k' model n
 
 pub record Turned (run : Progress) (node row places s : List ℕ) (at : ℕ) (out : List ℕ) (r : Progress) (node' row' places' out' : List ℕ) (next : ℕ) : Type 0 where
   pub sized : r.size ≡ run.size
@@ -46,5 +46,5 @@ pub record Turned (run : Progress) (node row places s : List ℕ) (at : ℕ) (ou
   pub ahead : at ≤ reached s r next
   pub short : r.end + line_room run.size.width * at ≤ run.end + line_room run.size.width * reached s r next
   pub few : r.line + at ≤ run.line + reached s r next
-  pub serves : (m : Model) → Keeps (kept_in run node row) places m
-      → Served (kept_in run node row) places s at run.line m out run.end (kept_in r node' row') places' out' (reached s r next) r.line r.end
+  pub serves : (m : Model) → Runs (records_in run node row) places m
+      → Served (records_in run node row) places s at run.line m out run.end (records_in r node' row') places' out' (reached s r next) r.line r.end

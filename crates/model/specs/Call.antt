@@ -1,4 +1,4 @@
--- The calls on an open store (SPEC 7): those that do one thing to rows or versions, a border, and a release. Assumes nothing.
+-- The calls on an open store (SPEC 7): those that do one thing, and a border. Assumes nothing.
 use Rattle.std.specs.Prelude.{List, ℕ}
 
 pub data Single : Type 0 where
@@ -15,5 +15,3 @@ pub data Call : Type 0 where
   one : Single → Call
   -- a tag, row numbers, and the rows' bytes one after the other
   border : ℕ → List ℕ → List ℕ → Call
-  -- of the version with a tag
-  release : ℕ → Call

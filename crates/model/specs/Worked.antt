@@ -4,10 +4,10 @@ use Rattle.std.proofs.Math.Option.{none, some}
 use Rattle.basics.specs.Equal.{equal}
 use Rattle.measures.specs.declared.Size.{Size}
 use Rattle.measures.specs.Measures.{rows_with}
-use Rattle.model.specs.Call.{Single, one, border, release, snapshot, read, write, delete, count}
-use Rattle.answers.specs.Answers.{bad_size, bad_length, handed, done, row, counts, refused_of, refused, bad_row, zero_tag, origin_tag, unknown_tag, tag_alive, snapshots_full, places_full, tag_released, origin_release}
+use Rattle.model.specs.Call.{Single, one, border, snapshot, read, write, delete, count}
+use Rattle.answers.specs.Answers.{bad_size, bad_length, handed, done, row, counts, refused_of, refused, bad_row, zero_tag, origin_tag, unknown_tag, tag_alive, snapshots_full, places_full}
 use Rattle.copies.specs.Copies.{any, only, different, alive, snapshots_alive, without, shared, sharers, places_used, adopt, put}
-use Rattle.model.specs.Model.{tests, release_tests, accepted, effect, releasing, opened, verdict, answer, after, border_tests, bordered, reply, next, answers, final}
+use Rattle.model.specs.Model.{tests, accepted, effect, opened, verdict, answer, after, border_tests, bordered, reply, next, answers, final}
 use Rattle.answers.specs.Tests.{refusal, in_measure, open_tests}
 use Rattle.answers.specs.InOrder.{in_order}
 
@@ -66,22 +66,6 @@ borders : answers tiny (opened tiny)
     ∷ handed 3 [] (1 ∷ []) ∷ row (4 ∷ []) 1 ∷ handed 0 [] (0 ∷ []) ∷ handed 21 [] (0 ∷ []) ∷ handed 2 [] (0 ∷ []) ∷ handed 0 [] (64 ∷ []) ∷ handed 25 [] (0 ∷ []) ∷ counts 3 1 ∷ []
 unfolding equal rows_with any only different alive snapshots_alive shared sharers places_used refusal in_order tests accepted adopt put without effect opened verdict answer after border_tests bordered reply next answers
 borders = refl
-
--- release: of the origin; of a version that is not alive; of 7, and once more. Then 7 is read, and a write of it gets 26 behind 2, 3 and 21, with the bytes that are
--- there, and in a full store, where its copy 8 gets 24; so does a border, with no rows, and with a row that there is not. 7 cannot be deleted, its copy can
-releases : answers tiny (opened tiny)
-    (one (snapshot 0 7) ∷ release 0 ∷ release 9 ∷ release 7 ∷ release 7 ∷ one (read 7 0)
-    ∷ one (write 7 0 (0 ∷ [])) ∷ one (write 7 2 (5 ∷ [])) ∷ one (write 7 2 []) ∷ one (write 9 0 (5 ∷ [])) ∷ one (write 9 2 (5 ∷ []))
-    ∷ one (write 0 0 (5 ∷ [])) ∷ one (snapshot 7 8) ∷ one (write 7 1 (5 ∷ [])) ∷ one (write 8 1 (5 ∷ [])) ∷ one (write 8 1 (0 ∷ []))
-    ∷ border 7 [] [] ∷ border 7 (2 ∷ []) (5 ∷ []) ∷ border 7 (1 ∷ []) [] ∷ border 7 (replicate 65 1) [] ∷ border 9 [] [] ∷ border 8 (1 ∷ []) (5 ∷ [])
-    ∷ one (delete 7) ∷ one (delete 0) ∷ one (delete 9) ∷ one (snapshot 0 7) ∷ one (delete 8) ∷ one (delete 8) ∷ one (read 7 0) ∷ one (read 7 1) ∷ one count ∷ [])
-    ≡ done ∷ refused origin_release ∷ refused unknown_tag ∷ done ∷ done ∷ row (0 ∷ []) 2
-    ∷ refused tag_released ∷ refused bad_row ∷ refused bad_length ∷ refused unknown_tag ∷ refused bad_row
-    ∷ done ∷ done ∷ refused tag_released ∷ refused places_full ∷ done
-    ∷ handed 26 [] (0 ∷ []) ∷ handed 26 [] (0 ∷ []) ∷ handed 2 [] (0 ∷ []) ∷ handed 25 [] (0 ∷ []) ∷ handed 21 [] (0 ∷ []) ∷ handed 24 [] (0 ∷ [])
-    ∷ refused tag_released ∷ refused origin_tag ∷ refused unknown_tag ∷ refused tag_alive ∷ done ∷ refused unknown_tag ∷ row (0 ∷ []) 1 ∷ row (0 ∷ []) 2 ∷ counts 3 1 ∷ []
-unfolding equal rows_with any only different alive snapshots_alive shared sharers places_used refusal in_order tests release_tests accepted adopt put without effect releasing opened verdict answer after border_tests bordered reply next answers
-releases = refl
 
 snapshots_of_origin : ℕ → List Single
 snapshots_of_origin zero = []

@@ -29,18 +29,8 @@ fn serve(stream: &[u8], out: &mut [u8]) -> usize
     let mut places = [0u8; 48];
     let mut node = [0u8; 2];
     let mut row = [0u16; 2];
-    let opened = store_open::open(size, &mut places, &mut node, &mut row);
+    let opened = opening::open(size, &mut places, &mut node, &mut row);
     let tree = opened.tree;
-    let released = opened.released;
-    let run = running::run(
-        size,
-        tree,
-        released,
-        &mut node,
-        &mut row,
-        &mut places,
-        stream,
-        out,
-    );
+    let run = running::run(size, tree, &mut node, &mut row, &mut places, stream, out);
     run.end
 }

@@ -5,28 +5,26 @@ ghost use Rattle.progress.specs.Replying.{onward, stopped, Room, Stopped};
 use measures::Size;
 use trees::Tree;
 
-// A run between two commands: the store's size, tree and flags, the end of the text so far, the next line's number, and whether it goes on.
+// A run between two commands: the store's size and tree, the end of the text so far, the next line's number, and whether it goes on.
 #[derive(Drop)]
 pub struct Progress {
     pub size: Size,
     pub tree: Tree,
-    pub released: [u8; 128],
     pub end: usize,
     pub line: usize,
     pub going: bool,
 }
 
-// The run behind a call that left a tree and flags, and whose line ends at `end`.
-pub fn on(run: Progress, tree: Tree, released: [u8; 128], end: usize) -> Progress
+// The run behind a call that left a tree, and whose line ends at `end`.
+pub fn on(run: Progress, tree: Tree, end: usize) -> Progress
     requires { run.line ≤ 4097 }
-    ensures { result ≡ onward run tree released end }
+    ensures { result ≡ onward run tree end }
 {
     let size = run.size;
     let line = run.line + 1;
     Progress {
         size,
         tree,
-        released,
         end,
         line,
         going: true,
@@ -39,12 +37,10 @@ pub fn over(run: Progress, end: usize) -> Progress
 {
     let size = run.size;
     let tree = run.tree;
-    let released = run.released;
     let line = run.line;
     Progress {
         size,
         tree,
-        released,
         end,
         line,
         going: false,

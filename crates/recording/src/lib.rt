@@ -1,12 +1,11 @@
-// The records and their flags, laid into their bytes.
-ghost use Rattle.std.specs.Prelude.{◌≡◌, [], ◌∷◌, ◌+◌, ◌≤◌, length};
+// The records, laid into their bytes.
+ghost use Rattle.std.specs.Prelude.{◌≡◌, [], ◌∷◌, ◌+◌, ◌*◌, ◌≤◌, length};
 ghost use Rattle.measures.specs.Measures.{Within};
 ghost use Rattle.records.specs.Records.{records_of};
-ghost use Rattle.kept.specs.Kept.{kept};
 ghost use Rattle.laying.specs.Laid.{Lays};
-ghost use Rattle.layout.specs.Layout.{tree_bytes, stored, entries, size_at, flags_at, nodes_at, rows_at, loaded, Fits};
+ghost use Rattle.layout.specs.Layout.{tree_bytes, table_bytes, stored, entries, records_size, size_at, nodes_at, rows_at, Fits};
 
-use layout::{RELEASED_AT, STATES_AT, TABLE_AT};
+use layout::{STATES_AT, TABLE_AT};
 use measures::Size;
 use trees::Tree;
 
@@ -35,25 +34,17 @@ fn lay_tree(records: &mut [u8], at: usize, tree: Tree) -> usize
 // The tree anew; all else is as it was.
 pub fn renew_tree(records: &mut [u8], tree: Tree)
     requires { Fits records.old }
-    ensures { records.new ≡ stored (kept (records_of (size_at records.old) tree (nodes_at records.old) (rows_at records.old)) (flags_at records.old)) }
+    ensures { records.new ≡ stored (records_of (size_at records.old) tree (nodes_at records.old) (rows_at records.old)) }
 {
     lay_tree(records, STATES_AT, tree);
 }
 
-// The tree and the rows anew; the measures, the flags and the nodes are as they lie there.
+// The tree and the rows anew; the measures and the nodes are as they lie there.
 pub fn renew(records: &mut [u8], tree: Tree, row: &[u16])
     requires { Fits records.old × (length row.now ≡ entries (size_at records.old)) }
-    ensures { records.new ≡ stored (kept (records_of (size_at records.old) tree (nodes_at records.old) row.now) (flags_at records.old)) }
+    ensures { records.new ≡ stored (records_of (size_at records.old) tree (nodes_at records.old) row.now) }
 {
     lay_tree(records, STATES_AT, tree);
     let rows = TABLE_AT + row.len();
     laying::lay_numbers(records, rows, row);
-}
-
-// The flags anew; all else is as it was.
-pub fn renew_flags(records: &mut [u8], released: &[u8; 128])
-    requires { Fits records.old }
-    ensures { records.new ≡ stored (kept (loaded records.old).records released.now) }
-{
-    laying::lay(records, RELEASED_AT, released);
 }

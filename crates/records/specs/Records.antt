@@ -1,5 +1,5 @@
--- The records of a store (SPEC 4): the measures, the tree and the two halves of the table; and who lives and reads what, by tag. A further
--- field stands beside these, in crates/kept, and what is said of records, trees and tables does not move. Definitions only. Assumes nothing.
+-- The records of a store (SPEC 4): the measures, the tree and the two halves of the table; and who lives and reads what, by tag. A further field of the
+-- records stands here, beside the tree, and what is said of trees and tables does not move. Definitions only. Assumes nothing.
 use Rattle.std.specs.Prelude.{Bool, true, false, List, ℕ}
 use Rattle.std.proofs.Math.Option.{Option, none, some}
 use Rattle.measures.specs.declared.Size.{Size}

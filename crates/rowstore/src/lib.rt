@@ -1,7 +1,6 @@
 // The C interface: the calls on numbers and slices, the records being bytes, and rows turned to cable order and back. Each is made by a crate of its own.
 ghost use Rattle.host_count.specs.Counts.{HostCounts};
 ghost use Rattle.host_snapshot.specs.Snapshots.{HostSnapshots};
-ghost use Rattle.host_release.specs.Releases.{HostReleases};
 ghost use Rattle.host_delete.specs.Deletes.{HostDeletes};
 ghost use Rattle.host_write.specs.Writes.{HostWrites};
 ghost use Rattle.host_border.specs.Borders.{HostBorders};
@@ -27,15 +26,7 @@ pub extern "C" fn rowstore_snapshot(records: &mut [u8], source: u16, tag: u16) -
     host_snapshot::snapshot(records, source, tag)
 }
 
-// The version with a tag is released: it is written and deleted no more. Refusals: 20, 27, 21.
-#[unsafe(no_mangle)]
-pub extern "C" fn rowstore_release(records: &mut [u8], tag: u16) -> u8
-    ensures { HostReleases records.old tag result records.new }
-{
-    host_release::release(records, tag)
-}
-
-// The version with a tag goes. Refusals: 20, 5, 21, 26.
+// The version with a tag goes. Refusals: 20, 5, 21.
 #[unsafe(no_mangle)]
 pub extern "C" fn rowstore_delete(records: &mut [u8], tag: u16) -> u8
     ensures { HostDeletes records.old tag result records.new }
@@ -43,7 +34,7 @@ pub extern "C" fn rowstore_delete(records: &mut [u8], tag: u16) -> u8
     host_delete::delete(records, tag)
 }
 
-// A row of the version with a tag is written. Refusals: 20, 2, 3, 21, 26, 24.
+// A row of the version with a tag is written. Refusals: 20, 2, 3, 21, 24.
 #[unsafe(no_mangle)]
 pub extern "C" fn rowstore_write(
     records: &mut [u8],
@@ -57,7 +48,7 @@ pub extern "C" fn rowstore_write(
     host_write::write(records, places, tag, Row(row), bytes)
 }
 
-// Rows of the version with a tag are written, in their order, until one is refused; `done` counts those that were. Refusals: 20, 25, 2, 21, 26, 3, 24.
+// Rows of the version with a tag are written, in their order, until one is refused; `done` counts those that were. Refusals: 20, 25, 2, 21, 3, 24.
 #[unsafe(no_mangle)]
 pub extern "C" fn rowstore_border(
     records: &mut [u8],

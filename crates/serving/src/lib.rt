@@ -32,6 +32,5 @@ pub fn serve(
         Command::Snapshot { .. } => run,
         Command::Write { .. } => run,
         Command::Delete { .. } => run,
-        Command::Release { .. } => run,
     }
 }

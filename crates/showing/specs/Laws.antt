@@ -6,16 +6,13 @@ use Rattle.std.proofs.Math.Option.{Option, none, some}
 use Rattle.std.proofs.Math.Decide.{dec_le}
 use Rattle.measures.specs.Measures.{bytes_at, begins_at}
 use Rattle.records.specs.Records.{Records, tag_place}
+use Rattle.records.specs.Sound.{Sound}
 use Rattle.model.specs.Call.{read, count, one}
-use Rattle.answers.specs.Answers.{Refusal, unsound, handed, row, refused_of}
+use Rattle.answers.specs.Answers.{Refusal, handed, row, refused_of}
 use Rattle.answers.specs.Tests.{refusal, unless}
-use Rattle.answers.specs.Laws.{number_some}
-use Rattle.soundness.specs.Judged.{judged_sound}
-use Rattle.counting.specs.Counting.{counted}
-use Rattle.reads.specs.Reads.{read_tests, read_answer, row_of_tag, sharers_of_tag}
-use Rattle.reads.specs.Sizes.{same_number, same_bytes, read_some}
-use Rattle.kept.specs.Kept.{Kept, SoundKept}
-use Rattle.store.specs.Store.{StoreReads, StoreCounts}
+use Rattle.counting.specs.Counting.{counted, CountEnds}
+use Rattle.reads.specs.Reads.{ReadEnds, read_tests, read_answer, row_of_tag, sharers_of_tag}
+use Rattle.reads.specs.Sizes.{same_bytes, read_some}
 use Rattle.theorem.specs.Trace.{read_ends, count_ends}
 use Rattle.text.specs.Text.{line, dash, pair_text, row_text, shown}
 use Rattle.laying.specs.Laid.{Lays}
@@ -39,33 +36,27 @@ answer_most z places tag r =
     let w = z.size.width in
     bytes_handed (refusal (read_tests z (length places) tag r)) (bytes_at w places (tag_place z tag r)) (sharers_of_tag z tag r) w (bytes_most w places (tag_place z tag r))
 
-pub read_most : (k : Kept) (places : List ℕ) (tag r n : ℕ) {bs : List ℕ} {sharers : ℕ} → StoreReads k places tag r n bs sharers → length bs ≤ k.records.size.width
-read_most k places tag r n {bs = bs} e = by_cases (dec_le (length bs) k.records.size.width)
+pub read_most : (z : Records) (places : List ℕ) (tag r n : ℕ) {bs : List ℕ} {sharers : ℕ} → ReadEnds z places tag r n bs sharers → length bs ≤ z.size.width
+read_most z places tag r n {bs = bs} e = by_cases (dec_le (length bs) z.size.width)
     (λ l. l)
     (λ f.
-    let bad : SoundKept k → ⊥ = λ s. f (rw (same_bytes (e.sound s)) (answer_most k.records places tag r)) in
+    let bad : Sound z → ⊥ = λ s. f (rw (same_bytes (e.sound s)) (answer_most z places tag r)) in
     let nothing : bs ≡ [] = same_bytes (e.unsound bad) in
     rw nothing (omega arith))
 
--- and an accepted one a byte at least
-kept_some : (k : Kept) (places : List ℕ) (tag r : ℕ) {n sharers : ℕ} {bs : List ℕ} → StoreReads k places tag r n bs sharers → n ≡ 0 → bs ≢ []
-kept_some k places tag r e z none_read =
-    let bad : SoundKept k → ⊥ = λ s. read_some k.records places tag r (judged_sound s.records (e.sound s)) z none_read in
-    number_some unsound (sym (same_number (e.unsound bad)) ∙ z)
-
 -- Calls and their lines
 
-module _ (k : Kept) {i from to : ℕ} {out out' : List ℕ} where
-  pub count_refused : {n w u a : ℕ} → w ≡ n → w ≢ 0 → StoreCounts k n u a → Lays out from (line i w dash) out' to → Replies k (one count) i out from k out' to
-  count_refused {n = n} {u = u} {a = a} e f s l = let d = shown_refused (counted n u a) (λ z. f (e ∙ z)) in λ places. record {
+module _ {k from to : ℕ} {out out' : List ℕ} where
+  pub count_refused : (z : Records) {n w u a : ℕ} → w ≡ n → w ≢ 0 → CountEnds z n u a → Lays out from (line k w dash) out' to → Replies z (one count) k out from z out' to
+  count_refused z {n = n} {u = u} {a = a} e f s l = let d = shown_refused (counted n u a) (λ z. f (e ∙ z)) in λ places. record {
     hands = counted n u a;
     ends = count_ends s;
     lays = lays_as (rw (e, d)) l;
     short = rw d (omega arith);
   }
 
-  pub count_replied : {n w u a : ℕ} → w ≡ n → w ≡ 0 → StoreCounts k n u a → Lays out from (line i 0 (pair_text u a)) out' to → Replies k (one count) i out from k out' to
-  count_replied {n = n} {u = u} {a = a} e f s l = let g = sym e ∙ f in let d : shown (counted n u a) ≡ pair_text u a = rw g (shown_counts u a) in λ places. record {
+  pub count_replied : (z : Records) {n w u a : ℕ} → w ≡ n → w ≡ 0 → CountEnds z n u a → Lays out from (line k 0 (pair_text u a)) out' to → Replies z (one count) k out from z out' to
+  count_replied z {n = n} {u = u} {a = a} e f s l = let g = sym e ∙ f in let d : shown (counted n u a) ≡ pair_text u a = rw g (shown_counts u a) in λ places. record {
     hands = counted n u a;
     ends = count_ends s;
     lays = lays_as (rw (d, g)) l;
@@ -73,23 +64,23 @@ module _ (k : Kept) {i from to : ℕ} {out out' : List ℕ} where
   }
 
   -- a read, of row q; w and v are the numbers that the line has
-  pub read_refused : (places : List ℕ) {tag q x n w u : ℕ} {bs : List ℕ} → x ≡ q → StoreReads k places tag x n bs u → w ≡ n → w ≢ 0 → Lays out from (line i w dash) out' to
-      → Replied k places (one (read tag q)) i out from k places out' to
-  read_refused places {n = n} {u = u} {bs = bs} h s e f l = let d = shown_refused (handed n bs (u ∷ [])) (λ z. f (e ∙ z)) in rw (sym h) (record {
+  pub read_refused : (z : Records) (places : List ℕ) {tag q x n w u : ℕ} {bs : List ℕ} → x ≡ q → ReadEnds z places tag x n bs u → w ≡ n → w ≢ 0 → Lays out from (line k w dash) out' to
+      → Replied z places (one (read tag q)) k out from z places out' to
+  read_refused z places {n = n} {u = u} {bs = bs} h s e f l = let d = shown_refused (handed n bs (u ∷ [])) (λ z. f (e ∙ z)) in rw (sym h) (record {
     hands = handed n bs (u ∷ []);
     ends = read_ends s;
     lays = lays_as (rw (e, d)) l;
     short = rw d (omega arith);
   })
 
-  pub read_replied : (places : List ℕ) {tag q x n w u v : ℕ} {bs : List ℕ} → x ≡ q → StoreReads k places tag x n bs u → w ≡ n → w ≡ 0 → Lays out from (line i 0 (row_text bs v)) out' to → v ≡ u
-      → Replied k places (one (read tag q)) i out from k places out' to
-  read_replied places {tag = tag} {x = x} {n = n} {u = u} {v = v} {bs = bs} h s e f l m =
+  pub read_replied : (z : Records) (places : List ℕ) {tag q x n w u v : ℕ} {bs : List ℕ} → x ≡ q → ReadEnds z places tag x n bs u → w ≡ n → w ≡ 0 → Lays out from (line k 0 (row_text bs v)) out' to → v ≡ u
+      → Replied z places (one (read tag q)) k out from z places out' to
+  read_replied z places {tag = tag} {x = x} {n = n} {u = u} {v = v} {bs = bs} h s e f l m =
       let g = sym e ∙ f in
-      let d : shown (handed n bs (u ∷ [])) ≡ row_text bs v = rw (g, m) (shown_row bs u (kept_some k places tag x s g)) in
+      let d : shown (handed n bs (u ∷ [])) ≡ row_text bs v = rw (g, m) (shown_row bs u (read_some z places tag x s g)) in
       rw (sym h) (record {
         hands = handed n bs (u ∷ []);
         ends = read_ends s;
         lays = lays_as (rw (d, g)) l;
-        short = rw d (omega (arith, row_most bs v, read_most k places tag x n s));
+        short = rw d (omega (arith, row_most bs v, read_most z places tag x n s));
       })

@@ -11,15 +11,14 @@ pub fn count<'a>(run: Progress, node: &'a [u8], row: &'a [u16], out: &mut [u8]) 
     ensures { Answers run node.now row.now (one count) out.old result node.now row.now out.new }
 {
     let tree = run.tree;
-    let released = run.released;
-    let c = store_count::count(run.size, tree, &released, node, row);
+    let c = counting::count(run.size, tree, node, row);
     let answer = widen::byte(c.answer);
     if answer != 0 {
         let end = text::plain_line(out, run.end, run.line, answer);
-        return progress::on(run, tree, released, end);
+        return progress::on(run, tree, end);
     }
     let end = text::count_line(out, run.end, run.line, c.used, c.snapshots);
-    progress::on(run, tree, released, end)
+    progress::on(run, tree, end)
 }
 
 // A read of a row by its number in the stream, and its line.
@@ -37,13 +36,11 @@ pub fn read<'a>(
         result node.now row.now places.now out.new }
 {
     let tree = run.tree;
-    let released = run.released;
     let mut number: u8 = 0;
     let mut sharers: usize = 0;
-    let bytes = store_read::read(
+    let bytes = queries::read(
         run.size,
         tree,
-        &released,
         node,
         row,
         places,
@@ -55,8 +52,8 @@ pub fn read<'a>(
     let answer = widen::byte(number);
     if answer != 0 {
         let end = text::plain_line(out, run.end, run.line, answer);
-        return progress::on(run, tree, released, end);
+        return progress::on(run, tree, end);
     }
     let end = text::row_line(out, run.end, run.line, bytes, sharers);
-    progress::on(run, tree, released, end)
+    progress::on(run, tree, end)
 }

@@ -6,4 +6,4 @@ pub mod Wrote
 pub mod Removed
 pub mod Calls
 pub mod Begins
-pub mod Rows
+pub mod Bordered

@@ -1,20 +1,18 @@
 -- A delete is a step of the place map: what it answers and leaves of a sound store is what the reference model's tests say. Assumes nothing.
-use Rattle.std.specs.Prelude.{◌≡◌, ◌≢◌, true, not, ◌&&◌, ℕ, ◌<◌, eqb}
+use Rattle.std.specs.Prelude.{◌≡◌, ◌≢◌, true, not, ◌&&◌, List, ℕ, ◌<◌, eqb}
 use Rattle.std.proofs.Math.Path.{refl, sym, ap}
 use Rattle.std.proofs.Common.{◌∙◌, eq-eqb, ne_eqb}
 use Rattle.std.proofs.Math.Logic.{by_cases}
-use mathlib.Core.List.{List, [], ◌∷◌}
 use Rattle.std.proofs.Math.Option.{Option, none, some}
 use Rattle.std.proofs.Math.Decide.{ℕ_discrete}
 use Rattle.basics.specs.Decide.{both, not_of}
 use Rattle.measures.specs.Measures.{bytes_at}
 use Rattle.records.specs.Records.{Records, lives, tag_place}
 use Rattle.model.specs.Call.{delete}
-use Rattle.answers.specs.Answers.{Refusal, origin_tag, unknown_tag, tag_released, done, refused}
-use Rattle.copies.specs.Copies.{any, alive, without}
+use Rattle.answers.specs.Answers.{Refusal, done, refused}
+use Rattle.copies.specs.Copies.{alive, without}
 use Rattle.model.specs.Model.{tests, accepted}
 use Rattle.answers.specs.Tests.{unless}
-use Rattle.answers.specs.Laws.{refusal_skipped}
 use Rattle.maps.specs.Map.{Alike}
 use Rattle.agreement.specs.Agree.{Effect, map_verdict, map_answer, Step}
 use Rattle.copies.specs.Living.{alive_gone, alive_stays}
@@ -29,9 +27,9 @@ use Rattle.removed.specs.Removed.{left_records, delete_left, delete_allowed, del
 
 module _ (z : Records) (places : List ℕ) (st : Store z places) (tag : ℕ) where
   -- the store's tests are the map's
-  pub same_verdict : map_verdict z.size (view z places) (delete tag) ≡ delete_verdict z tag
-  unfolding map_verdict delete_verdict tests any delete_tests
-  same_verdict = rw (view_alive z st.sound places tag) (refusal_skipped ((eqb tag 0, origin_tag) ∷ (not (lives z tag), unknown_tag) ∷ []) tag_released [] refl)
+  same_verdict : map_verdict z.size (view z places) (delete tag) ≡ delete_verdict z tag
+  unfolding map_verdict delete_verdict tests delete_tests
+  same_verdict = rw (view_alive z st.sound places tag)
 
   -- a deletion seen from the map
   module _ (l : Left) (off : tag ≢ 0) (d : Deleted z (left_records z.size l) tag) where

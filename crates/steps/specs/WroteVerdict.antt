@@ -1,6 +1,6 @@
 -- The store's tests of a write are the place map's. Assumes nothing.
 use Rattle.std.specs.Prelude.{◌≡◌, true, not, ◌&&◌, List, [], ◌∷◌, ℕ, leb}
-use Rattle.std.proofs.Math.Path.{refl, sym}
+use Rattle.std.proofs.Math.Path.{sym}
 use Rattle.std.proofs.Common.{◌∙◌, eq-eqb}
 use Rattle.std.proofs.Math.Option.{some}
 use Rattle.std.proofs.lemmas.Bool.{not-false}
@@ -11,8 +11,8 @@ use Rattle.trees.specs.Reading.{place}
 use Rattle.records.specs.Records.{Records, table, lives}
 use Rattle.trees.specs.Trees.{version}
 use Rattle.model.specs.Call.{write}
-use Rattle.answers.specs.Answers.{bad_length, tag_released, places_full}
-use Rattle.copies.specs.Copies.{any, shared, places_used}
+use Rattle.answers.specs.Answers.{bad_length, places_full}
+use Rattle.copies.specs.Copies.{shared, places_used}
 use Rattle.model.specs.Model.{tests}
 use Rattle.answers.specs.Tests.{refusal}
 use Rattle.answers.specs.Laws.{refusal_next, refusal_same}
@@ -42,7 +42,7 @@ module _ (z : Records) (places : List ℕ) (st : Store z places) (tag r : ℕ) (
   same_room l = let (v, h, a, g) = lives_node z tag l in rw (h, shared_view z st.sound places tag v r h, view_used z st.sound places, reads v h)
 
   pub same_verdict : map_verdict z.size (view z places) (write tag r bs) ≡ write_verdict z places tag r bs
-  unfolding map_verdict tests any write_verdict write_tests
+  unfolding map_verdict tests write_verdict write_tests
   same_verdict =
-      rw (view_alive z st.sound places tag) (refusal_same _ _ _ _ (λ x. refusal_same _ _ _ _ (λ y. refusal_same _ _ _ _ (λ l. refusal_next tag_released _ refl ∙ same_room (not-false _ l)))))
+      rw (view_alive z st.sound places tag) (refusal_same _ _ _ _ (λ x. refusal_same _ _ _ _ (λ y. refusal_same _ _ _ _ (λ l. same_room (not-false _ l)))))
       ∙ sym (refusal_next bad_length _ (not_no (eq-eqb _ _ st.size)))

@@ -9,13 +9,13 @@ use Rattle.std.proofs.lemmas.Bool.{not-false}
 use Rattle.basics.specs.Equal.{equal}
 use Rattle.measures.specs.declared.Size.{Size}
 use Rattle.measures.specs.Measures.{rows_with}
-use Rattle.answers.specs.Answers.{Refusal, bad_length, bad_row, unknown_tag, places_full, too_many_rows, tag_released, number}
+use Rattle.answers.specs.Answers.{Refusal, bad_length, bad_row, unknown_tag, places_full, too_many_rows, number}
 use Rattle.answers.specs.Tests.{refusal, unless}
 use Rattle.answers.specs.Laws.{refusal_next, refusal_same, refusal_passed}
 use Rattle.answers.specs.InOrder.{stopped, one_more, in_order, ended_with}
 use Rattle.copies.specs.Copies.{alive, shared, places_used}
 use Rattle.model.specs.Call.{write, border}
-use Rattle.model.specs.Model.{Model, is_released, tests, effect, verdict, border_tests, bordered, reply}
+use Rattle.model.specs.Model.{Model, tests, effect, verdict, border_tests, bordered, reply}
 
 -- none, 3 or 24
 abbrev AtRow : Option Refusal → Type 0
@@ -43,19 +43,19 @@ rows_wide width (r ∷ rs) bs e = (
 
 module _ (z : Size) (t : ℕ) where
   -- a single write of a living version, with as many bytes as a row has
-  write_at_row : (m : Model) (r : ℕ) (bs : List ℕ) → length bs ≡ z.width → alive m.snapshots t ≡ true → is_released m.released t ≡ false → AtRow (verdict z m (write t r bs))
+  write_at_row : (m : Model) (r : ℕ) (bs : List ℕ) → length bs ≡ z.width → alive m.snapshots t ≡ true → AtRow (verdict z m (write t r bs))
   unfolding verdict tests
-  write_at_row m r bs l a u =
+  write_at_row m r bs l a =
       let full = shared m.snapshots m.rows.mark t r && leb z.places (places_used z.rows m.snapshots m.rows.mark) && not (equal bs (m.rows.content (t, r))) in
       let e : verdict z m (write t r bs) ≡ refusal ((leb z.rows r, bad_row) ∷ (full, places_full) ∷ []) =
-      refusal_next bad_length _ (ap not (eq-eqb (length bs) z.width l)) ∙ refusal_same (leb z.rows r) bad_row _ _ (λ k. refusal_next unknown_tag _ (ap not a) ∙ refusal_next tag_released _ u) in
+      refusal_next bad_length _ (ap not (eq-eqb (length bs) z.width l)) ∙ refusal_same (leb z.rows r) bad_row _ _ (λ k. refusal_next unknown_tag _ (ap not a)) in
       rw e (two_left (leb z.rows r) full)
 
-  rows_at_row : (m : Model) (xs : List (ℕ × List ℕ)) → alive m.snapshots t ≡ true → is_released m.released t ≡ false → Wide z.width xs
+  rows_at_row : (m : Model) (xs : List (ℕ × List ℕ)) → alive m.snapshots t ≡ true → Wide z.width xs
       → AtRow (in_order (λ n x. verdict z n (write t x.0 x.1)) (λ n x. effect n (write t x.0 x.1)) m xs).refusal
   unfolding in_order effect
-  rows_at_row m [] a u w = tt
-  rows_at_row m (x ∷ xs) a u w = go (verdict z m (write t x.0 x.1)) (write_at_row m x.0 x.1 w.0 a u) (rows_at_row (effect m (write t x.0 x.1)) xs a u w.1)
+  rows_at_row m [] a w = tt
+  rows_at_row m (x ∷ xs) a w = go (verdict z m (write t x.0 x.1)) (write_at_row m x.0 x.1 w.0 a) (rows_at_row (effect m (write t x.0 x.1)) xs a w.1)
     where
       go : (v : Option Refusal) → AtRow v → AtRow (in_order (λ n x. verdict z n (write t x.0 x.1)) (λ n x. effect n (write t x.0 x.1)) (effect m (write t x.0 x.1)) xs).refusal
           → AtRow (unless v (stopped m) (one_more (in_order (λ n x. verdict z n (write t x.0 x.1)) (λ n x. effect n (write t x.0 x.1)) (effect m (write t x.0 x.1)) xs))).refusal
@@ -63,15 +63,13 @@ module _ (z : Size) (t : ℕ) where
       go (some r) h k = h
 
 -- what a border that no test of its own refuses has passed
-passed : (z : Size) (m : Model) (t : ℕ) (rs bs : List ℕ) → refusal (border_tests z m.snapshots m.released t rs bs) ≡ none
-    → (length bs ≡ length rs * z.width) × (alive m.snapshots t ≡ true) × (is_released m.released t ≡ false)
+passed : (z : Size) (m : Model) (t : ℕ) (rs bs : List ℕ) → refusal (border_tests z m.snapshots t rs bs) ≡ none → (length bs ≡ length rs * z.width) × (alive m.snapshots t ≡ true)
 unfolding border_tests
 passed z m t rs bs e =
     let (a, e₁) = refusal_passed (leb 65 (length rs)) too_many_rows _ e in
     let (b, e₂) = refusal_passed (not (eqb (length bs) (length rs * z.width))) bad_length _ e₁ in
     let (c, e₃) = refusal_passed (not (alive m.snapshots t)) unknown_tag _ e₂ in
-    let (d, e₄) = refusal_passed (is_released m.released t) tag_released _ e₃ in
-    (eqb-true _ _ (not-false _ b), not-false _ c, d)
+    (eqb-true _ _ (not-false _ b), not-false _ c)
 
 -- another number is none of these
 never : (v : Option Refusal) {A : Type 0} → AtRow v → unless v number 0 ≢ 0 → unless v number 0 ≢ 3 → unless v number 0 ≢ 24 → A
@@ -82,10 +80,10 @@ never (some r) (inr h) o p q = absurd (q h)
 pub border_early : (z : Size) (m : Model) (t : ℕ) (rs bs : List ℕ) → (reply z m (border t rs bs)).number ≢ 0 → (reply z m (border t rs bs)).number ≢ 3 → (reply z m (border t rs bs)).number ≢ 24
     → (reply z m (border t rs bs)).numbers ≡ 0 ∷ []
 unfolding reply bordered
-border_early z m t rs bs = go (refusal (border_tests z m.snapshots m.released t rs bs)) refl
+border_early z m t rs bs = go (refusal (border_tests z m.snapshots t rs bs)) refl
   where
-    go : (v : Option Refusal) → refusal (border_tests z m.snapshots m.released t rs bs) ≡ v
+    go : (v : Option Refusal) → refusal (border_tests z m.snapshots t rs bs) ≡ v
         → (let e = unless v (stopped m) (in_order (λ n x. verdict z n (write t x.0 x.1)) (λ n x. effect n (write t x.0 x.1)) m (rows_with z.width rs bs)) in
         (ended_with e).number ≢ 0 → (ended_with e).number ≢ 3 → (ended_with e).number ≢ 24 → (ended_with e).numbers ≡ 0 ∷ [])
-    go none e o p q = let (l, a, u) = passed z m t rs bs e in never (in_order (λ n x. verdict z n (write t x.0 x.1)) (λ n x. effect n (write t x.0 x.1)) m (rows_with z.width rs bs)).refusal (rows_at_row z t m (rows_with z.width rs bs) a u (rows_wide z.width rs bs l)) o p q
+    go none e o p q = let (l, a) = passed z m t rs bs e in never (in_order (λ n x. verdict z n (write t x.0 x.1)) (λ n x. effect n (write t x.0 x.1)) m (rows_with z.width rs bs)).refusal (rows_at_row z t m (rows_with z.width rs bs) a (rows_wide z.width rs bs l)) o p q
     go (some r) e o p q = refl

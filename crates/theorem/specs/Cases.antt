@@ -11,12 +11,10 @@ use Rattle.answers.specs.InOrder.{in_order}
 use Rattle.answers.specs.Tests.{refusal, verdict_number, in_measure, open_tests}
 use Rattle.answers.specs.Laws.{verdict_none}
 use Rattle.basics.specs.Equal.{equal}
-use Rattle.model.specs.Call.{Single, snapshot, read, write, delete, count, Call, one, border, release}
+use Rattle.model.specs.Call.{Single, snapshot, read, write, delete, count, Call, one, border}
 use Rattle.copies.specs.Copies.{any, only, different, alive, snapshots_alive, shared, sharers, places_used, adopt, put, without}
-use Rattle.model.specs.Model.{tests, release_tests, accepted, effect, releasing, opened, verdict, answer, after, border_tests, bordered, reply, next, answers, final}
-use Rattle.opening.specs.Opening.{open_verdict}
-use Rattle.kept.specs.Kept.{kept}
-use Rattle.store.specs.Store.{StoreOpens}
+use Rattle.model.specs.Model.{tests, accepted, effect, opened, verdict, answer, after, border_tests, bordered, reply, next, answers, final}
+use Rattle.opening.specs.Opening.{open_verdict, Opening}
 use Rattle.theorem.specs.Trace.{State, state, CallEnds, Trace, over}
 use Rattle.theorem.specs.Theorem.{theorem_opened}
 use Rattle.theorem.specs.Stores.{write_untouched}
@@ -65,7 +63,7 @@ calling cs hs = record {
   size = usual;
   places = 48;
   entries = 2;
-  records = 652;
+  records = 524;
   opens = 0;
   calls = cs;
   hands = hs;
@@ -101,9 +99,9 @@ alike bs n = reads bs n ∷ reads bs n ∷ reads bs n ∷ reads bs n ∷ []
 abbrev pub cases : List Case
 cases =
     -- L = 0; L = 1025; P = L - 1
-    turned 0 8 6 48 6 664 1
-    ∷ turned 1025 8 2000 16000 975 3571 1
-    ∷ turned 4 8 3 24 0 646 1
+    turned 0 8 6 48 6 536 1
+    ∷ turned 1025 8 2000 16000 975 3443 1
+    ∷ turned 4 8 3 24 0 518 1
     -- after opening: the last row is zero, and there is no row after it
     ∷ on (read 0 3 ∷ []) (reads (eight 0) 1 ∷ [])
     ∷ on (read 0 4 ∷ []) (ends 3 0 ∷ [])
@@ -139,23 +137,11 @@ cases =
     -- no rows, of the origin and of a version that is not alive; 64 rows; 65 rows with a wrong length; one row with a wrong length
     ∷ calling (border 0 [] [] ∷ border 9 [] [] ∷ []) (ends 0 0 ∷ ends 21 0 ∷ [])
     ∷ calling (border 0 (replicate 64 1) (replicate 512 6) ∷ border 0 (replicate 65 1) (replicate 512 6) ∷ border 0 (1 ∷ []) (replicate 9 6) ∷ []) (ends 0 64 ∷ ends 25 0 ∷ ends 2 0 ∷ [])
-    -- releases: of the origin, of nobody, of 7, once more. It can be read and copied, and is neither written, with the bytes that are there, nor deleted; 3 and 21 come before
-    -- 26, and 26 before 24 in a full store, where its copy gets 24 and may have the bytes that are there
-    ∷ calling
-    (one (snapshot 0 7) ∷ release 0 ∷ release 9 ∷ release 7 ∷ release 7 ∷ one (read 7 0) ∷ one (write 7 0 (eight 0)) ∷ one (write 7 4 (eight 0)) ∷ one (write 9 0 (eight 0)) ∷ one (write 9 4 (eight 0)) ∷ one (delete 7) ∷ [])
-    (says 0 ∷ says 27 ∷ says 21 ∷ says 0 ∷ says 0 ∷ reads (eight 0) 2 ∷ says 26 ∷ says 3 ∷ says 21 ∷ says 3 ∷ says 26 ∷ [])
-    ∷ calling
-    (one (snapshot 0 7) ∷ release 7 ∷ one (snapshot 7 8) ∷ one (write 8 0 (eight 1)) ∷ one (write 8 1 (eight 1)) ∷ one (write 7 2 (eight 1)) ∷ one (write 8 2 (eight 1)) ∷ one (write 8 2 (eight 0)) ∷ one (delete 8) ∷ one (snapshot 0 7) ∷ one (read 7 0) ∷ one count ∷ [])
-    (says 0 ∷ says 0 ∷ says 0 ∷ says 0 ∷ says 0 ∷ says 26 ∷ says 24 ∷ says 0 ∷ says 0 ∷ says 22 ∷ reads (eight 0) 2 ∷ counted 4 1 ∷ [])
-    -- borders of a released version: no rows, a row that there is not, a wrong length, 65 rows; of nobody
-    ∷ calling
-    (one (snapshot 0 7) ∷ release 7 ∷ border 7 [] [] ∷ border 7 (4 ∷ []) (eight 0) ∷ border 7 (0 ∷ []) (eight 0) ∷ border 7 (0 ∷ []) [] ∷ border 7 (replicate 65 0) [] ∷ border 9 [] [] ∷ [])
-    (says 0 ∷ says 0 ∷ ends 26 0 ∷ ends 26 0 ∷ ends 26 0 ∷ ends 2 0 ∷ ends 25 0 ∷ ends 21 0 ∷ [])
     ∷ []
 
 pub cases_met : AllMeet cases
-unfolding equal rows_with any only different alive snapshots_alive shared sharers places_used refusal in_measure open_tests in_order tests release_tests accepted adopt put without effect releasing opened verdict answer after border_tests bordered reply next answers
-cases_met = ((refl, refl), ((refl, refl), ((refl, refl), ((refl, refl), ((refl, refl), ((refl, refl), ((refl, refl), ((refl, refl), ((refl, refl), ((refl, refl), ((refl, refl), ((refl, refl), ((refl, refl), ((refl, refl), ((refl, refl), ((refl, refl), ((refl, refl), ((refl, refl), ((refl, refl), ((refl, refl), ((refl, refl), ((refl, refl), ((refl, refl), ((refl, refl), tt))))))))))))))))))))))))
+unfolding equal rows_with any only different alive snapshots_alive shared sharers places_used refusal in_measure open_tests in_order tests accepted adopt put without effect opened verdict answer after border_tests bordered reply next answers
+cases_met = ((refl, refl), ((refl, refl), ((refl, refl), ((refl, refl), ((refl, refl), ((refl, refl), ((refl, refl), ((refl, refl), ((refl, refl), ((refl, refl), ((refl, refl), ((refl, refl), ((refl, refl), ((refl, refl), ((refl, refl), ((refl, refl), ((refl, refl), ((refl, refl), ((refl, refl), ((refl, refl), ((refl, refl), tt)))))))))))))))))))))
 
 -- buffers of a line's lengths
 pub record Lent (c : Case) (p n r : List ℕ) : Type 0 where
@@ -164,20 +150,20 @@ pub record Lent (c : Case) (p n r : List ℕ) : Type 0 where
   pub rows : length r ≡ c.entries
 
 -- so every opening of such buffers gets the line's number, and the calls on what it left hand out what the line says
-pub case_runs : (c : Case) → Meets c → (places nodes rows : List ℕ) → Lent c places nodes rows → (number : ℕ) (tree : Tree) (flags places' nodes' rows' : List ℕ)
-    → StoreOpens c.size places nodes rows number tree flags places' nodes' rows'
-    → (number ≡ c.opens) × (number ≡ 0 → (hs : List Answer) (s' : State) → Trace (state (kept (records_of c.size tree nodes' rows') flags) places') c.calls hs s' → hs ≡ c.hands)
+pub case_runs : (c : Case) → Meets c → (places nodes rows : List ℕ) → Lent c places nodes rows → (number : ℕ) (tree : Tree) (places' nodes' rows' : List ℕ)
+    → Opening c.size places nodes rows number tree places' nodes' rows'
+    → (number ≡ c.opens) × (number ≡ 0 → (hs : List Answer) (s' : State) → Trace (state (records_of c.size tree nodes' rows') places') c.calls hs s' → hs ≡ c.hands)
 unfolding open_verdict
-case_runs c met places nodes rows lent number tree flags places' nodes' rows' o = (
-  o.opening.answers ∙ rw (lent.bytes, lent.nodes, lent.rows) met.0,
-  λ e hs s' t. (theorem_opened c.size places nodes rows number tree flags places' nodes' rows' o (verdict_none (open_verdict c.size places nodes rows) (sym o.opening.answers ∙ e)) t).0 ∙ met.1,
+case_runs c met places nodes rows lent number tree places' nodes' rows' o = (
+  o.answers ∙ rw (lent.bytes, lent.nodes, lent.rows) met.0,
+  λ e hs s' t. (theorem_opened c.size places nodes rows number tree places' nodes' rows' o (verdict_none (open_verdict c.size places nodes rows) (sym o.answers ∙ e)) t).0 ∙ met.1,
 )
 
 -- and the write of the last line leaves the whole store as it was before it: every node of its tree too, so that there is no ghost
-pub no_ghost : (places nodes rows : List ℕ) (number : ℕ) (tree : Tree) (flags places' nodes' rows' : List ℕ) → StoreOpens usual places nodes rows number tree flags places' nodes' rows' → number ≡ 0
-    → {hs : List Answer} {h : Answer} {s s' : State} → Trace (state (kept (records_of usual tree nodes' rows') flags) places') (one (snapshot 0 7) ∷ one (snapshot 7 8) ∷ []) hs s
-    → CallEnds s.kept s.places (one (write 7 0 (eight 0))) h s' → s' ≡ s
+pub no_ghost : (places nodes rows : List ℕ) (number : ℕ) (tree : Tree) (places' nodes' rows' : List ℕ) → Opening usual places nodes rows number tree places' nodes' rows' → number ≡ 0
+    → {hs : List Answer} {h : Answer} {s s' : State} → Trace (state (records_of usual tree nodes' rows') places') (one (snapshot 0 7) ∷ one (snapshot 7 8) ∷ []) hs s
+    → CallEnds s.records s.places (one (write 7 0 (eight 0))) h s' → s' ≡ s
 unfolding open_verdict any different alive snapshots_alive refusal tests adopt effect opened verdict after next final
-no_ghost places nodes rows number tree flags places' nodes' rows' o e t k =
-    let q = (theorem_opened usual places nodes rows number tree flags places' nodes' rows' o (verdict_none (open_verdict usual places nodes rows) (sym o.opening.answers ∙ e)) t).1 in
-    (write_untouched q.store q.whole over k (rw q.sized) (rw q.sized (omega arith)) (q.living 7) (q.released 7) (sym (q.rows 7 0 refl (omega arith)))).1
+no_ghost places nodes rows number tree places' nodes' rows' o e t k =
+    let q = (theorem_opened usual places nodes rows number tree places' nodes' rows' o (verdict_none (open_verdict usual places nodes rows) (sym o.answers ∙ e)) t).1 in
+    (write_untouched q.store q.whole over k (rw q.sized) (rw q.sized (omega arith)) (q.living 7) (sym (q.rows 7 0 refl (omega arith)))).1

@@ -1,6 +1,5 @@
 -- What follows from the reference model: what a read tells, when a write and a snapshot are accepted, that a write of the bytes that are there changes nothing, what
--- a delete leaves alone, that 20 is never answered, and that a version lives on and reads as it was left. Stores.antt says the same of stores; Released.antt has what
--- follows of released versions. Assumes nothing.
+-- a delete leaves alone, that 20 is never answered, and that a version lives on and reads as it was left. Stores.antt says the same of stores. Assumes nothing.
 use Rattle.std.specs.Prelude.{◌≡◌, ◌≢◌, ◌↔◌, Bool, true, false, ◌&&◌, cond, List, [], ◌∷◌, ℕ, ◌*◌, ◌≤◌, ◌<◌, eqb, length}
 use Rattle.std.proofs.Math.Path.{refl}
 use Rattle.std.proofs.Common.{sym, ◌∙◌, ap, arith}
@@ -14,10 +13,10 @@ use Rattle.basics.specs.Equal.{equal, equal_refl, equal_false, equal_not}
 use Rattle.measures.specs.declared.Size.{Size}
 use Rattle.measures.specs.Measures.{rows_with}
 use Rattle.measures.specs.Rows.{rows_long}
-use Rattle.model.specs.Call.{Single, snapshot, read, write, delete, count, Call, one, border, release}
-use Rattle.answers.specs.Answers.{Refusal, bad_length, bad_row, unknown_tag, places_full, too_many_rows, tag_released, number, Answer, done, row, refused_of, refused}
-use Rattle.copies.specs.Copies.{Cell, Copies, alive, snapshots_alive, shared, sharers, places_used, adopt, renewed}
-use Rattle.model.specs.Model.{Model, is_released, tests, release_tests, accepted, effect, releasing, verdict, answer, after, border_tests, bordered, reply, next, final}
+use Rattle.model.specs.Call.{Single, snapshot, read, write, delete, count, Call, one, border}
+use Rattle.answers.specs.Answers.{Refusal, bad_length, bad_row, unknown_tag, places_full, too_many_rows, number, Answer, done, row, refused_of, refused}
+use Rattle.copies.specs.Copies.{Cell, alive, snapshots_alive, shared, sharers, places_used, adopt, renewed}
+use Rattle.model.specs.Model.{Model, tests, accepted, effect, verdict, answer, after, border_tests, bordered, reply, next, final}
 use Rattle.answers.specs.Tests.{Tests, or_else, refusal, unless, verdict_number}
 use Rattle.answers.specs.Laws.{refusal_next, refusal_none, number_some, verdict_none}
 use Rattle.answers.specs.InOrder.{stopped, in_order, ended_with}
@@ -44,15 +43,14 @@ full_not true h = absurd (h refl)
 full_not false h = refl
 
 -- a last test that does not hold refuses nothing
-never_full : (a b c x d : Bool)
-    → (unless (refusal ((a, bad_length) ∷ (b, bad_row) ∷ (c, unknown_tag) ∷ (x, tag_released) ∷ (d && false, places_full) ∷ [])) refused done).number ≢ 24
+never_full : (a b c d : Bool)
+    → (unless (refusal ((a, bad_length) ∷ (b, bad_row) ∷ (c, unknown_tag) ∷ (d && false, places_full) ∷ [])) refused done).number ≢ 24
 unfolding refusal
-never_full true b c x d = omega arith
-never_full false true c x d = omega arith
-never_full false false true x d = omega arith
-never_full false false false true d = omega arith
-never_full false false false false true = omega arith
-never_full false false false false false = omega arith
+never_full true b c d = omega arith
+never_full false true c d = omega arith
+never_full false false true d = omega arith
+never_full false false false true = omega arith
+never_full false false false false = omega arith
 
 module _ (z : Size) (m : Model) where
   -- a write wants a place: its row is shared, every place is in use, and its bytes are not those that the version reads there
@@ -74,21 +72,21 @@ module _ (z : Size) (m : Model) where
   )
 
   -- a write that passes the tests before it has that one left
-  write_left_lem : (t r : ℕ) (bs : List ℕ) → length bs ≡ z.width → r < z.rows → alive m.snapshots t ≡ true → is_released m.released t ≡ false → verdict z m (write t r bs) ≡ refusal ((wants t r bs, places_full) ∷ [])
+  write_left_lem : (t r : ℕ) (bs : List ℕ) → length bs ≡ z.width → r < z.rows → alive m.snapshots t ≡ true → verdict z m (write t r bs) ≡ refusal ((wants t r bs, places_full) ∷ [])
   unfolding verdict tests
-  write_left_lem t r bs l k a u =
-      refusal_next _ _ (ap not (eq-eqb (length bs) z.width l)) ∙ refusal_next _ _ (lt-leb z.rows r k) ∙ refusal_next _ _ (ap not a) ∙ refusal_next _ _ u
+  write_left_lem t r bs l k a =
+      refusal_next _ _ (ap not (eq-eqb (length bs) z.width l)) ∙ refusal_next _ _ (lt-leb z.rows r k) ∙ refusal_next _ _ (ap not a)
 
   -- of the writes that reach the last test, 24 refuses exactly those whose row is shared while no place is left, and whose bytes are others
-  pub write_full : (t r : ℕ) (bs : List ℕ) → length bs ≡ z.width → r < z.rows → alive m.snapshots t ≡ true → is_released m.released t ≡ false → ((answer z m (write t r bs)).number ≡ 24) ↔ Wants t r bs
+  pub write_full : (t r : ℕ) (bs : List ℕ) → length bs ≡ z.width → r < z.rows → alive m.snapshots t ≡ true → ((answer z m (write t r bs)).number ≡ 24) ↔ Wants t r bs
   unfolding answer accepted
-  write_full t r bs l k a u = rw (write_left_lem t r bs l k a u)
+  write_full t r bs l k a = rw (write_left_lem t r bs l k a)
       (λ e. (wants_iff t r bs).0 ((full_iff (wants t r bs)).0 e), λ h. (full_iff (wants t r bs)).1 ((wants_iff t r bs).1 h))
 
   -- and otherwise it is accepted
-  pub write_accepted : (t r : ℕ) (bs : List ℕ) → length bs ≡ z.width → r < z.rows → alive m.snapshots t ≡ true → is_released m.released t ≡ false → (Wants t r bs → ⊥) → (answer z m (write t r bs)).number ≡ 0
+  pub write_accepted : (t r : ℕ) (bs : List ℕ) → length bs ≡ z.width → r < z.rows → alive m.snapshots t ≡ true → (Wants t r bs → ⊥) → (answer z m (write t r bs)).number ≡ 0
   unfolding answer accepted
-  write_accepted t r bs l k a u h = rw (write_left_lem t r bs l k a u) (full_not (wants t r bs) (λ e. h ((wants_iff t r bs).0 e)))
+  write_accepted t r bs l k a h = rw (write_left_lem t r bs l k a) (full_not (wants t r bs) (λ e. h ((wants_iff t r bs).0 e)))
 
   -- a write of the bytes that are there leaves everything as it was
   pub write_untouched : (t r : ℕ) → after z m (write t r (m.rows.content (t, r))) ≡ m
@@ -103,7 +101,7 @@ module _ (z : Size) (m : Model) where
   pub untouched_never_full : (t r : ℕ) → (answer z m (write t r (m.rows.content (t, r)))).number ≢ 24
   unfolding answer verdict tests accepted
   untouched_never_full t r =
-      rw (equal_refl (m.rows.content (t, r))) (never_full _ _ _ _ (shared m.snapshots m.rows.mark t r && leb z.places (places_used z.rows m.snapshots m.rows.mark)))
+      rw (equal_refl (m.rows.content (t, r))) (never_full _ _ _ (shared m.snapshots m.rows.mark t r && leb z.places (places_used z.rows m.snapshots m.rows.mark)))
 
   -- a read of a living version's row is accepted; its number counts that version, and is above 1 exactly if the row is shared
   pub read_tells : (t r : ℕ) → r < z.rows → alive m.snapshots t ≡ true
@@ -122,7 +120,7 @@ module _ (z : Size) (m : Model) where
   snapshot_of : (s t : ℕ) → verdict z m (snapshot s t) ≡ none → (t ≢ 0) × (alive m.snapshots s ≡ true) × (alive m.snapshots t ≡ false) × (snapshots_alive m.snapshots < 64)
   unfolding verdict tests
   snapshot_of s t e =
-      let p = none_passed (tests z m.snapshots m.rows.mark m.rows.content m.released (snapshot s t)) e in
+      let p = none_passed (tests z m.snapshots m.rows.mark m.rows.content (snapshot s t)) e in
       (eqb-false t 0 p.0, not-false _ p.1.0, p.1.1.0, leb-false _ _ p.1.1.1.0)
 
   -- a snapshot is accepted exactly if its tag is not 0 and not alive, its source lives, and fewer than 64 snapshots are alive
@@ -159,10 +157,10 @@ other n (t ∷ ts) a o h = go t.0 (other n ts a o.1 h)
 -- 20 is never answered
 not_unsound : (z : Size) (m : Model) (c : Single) → (answer z m c).number ≢ 20
 unfolding answer verdict tests accepted
-not_unsound z m (snapshot s t) = other 0 (tests z m.snapshots m.rows.mark m.rows.content m.released (snapshot s t)) done (omega arith, (omega arith, (omega arith, (omega arith, tt)))) (omega arith)
-not_unsound z m (read t r) = other 1 (tests z m.snapshots m.rows.mark m.rows.content m.released (read t r)) (accepted z m.snapshots m.rows.mark m.rows.content (read t r)) (omega arith, (omega arith, tt)) (omega arith)
-not_unsound z m (write t r bs) = other 0 (tests z m.snapshots m.rows.mark m.rows.content m.released (write t r bs)) done (omega arith, (omega arith, (omega arith, (omega arith, (omega arith, tt))))) (omega arith)
-not_unsound z m (delete t) = other 0 (tests z m.snapshots m.rows.mark m.rows.content m.released (delete t)) done (omega arith, (omega arith, (omega arith, tt))) (omega arith)
+not_unsound z m (snapshot s t) = other 0 (tests z m.snapshots m.rows.mark m.rows.content (snapshot s t)) done (omega arith, (omega arith, (omega arith, (omega arith, tt)))) (omega arith)
+not_unsound z m (read t r) = other 1 (tests z m.snapshots m.rows.mark m.rows.content (read t r)) (accepted z m.snapshots m.rows.mark m.rows.content (read t r)) (omega arith, (omega arith, tt)) (omega arith)
+not_unsound z m (write t r bs) = other 0 (tests z m.snapshots m.rows.mark m.rows.content (write t r bs)) done (omega arith, (omega arith, (omega arith, (omega arith, tt)))) (omega arith)
+not_unsound z m (delete t) = other 0 (tests z m.snapshots m.rows.mark m.rows.content (delete t)) done (omega arith, (omega arith, tt)) (omega arith)
 not_unsound z m count = other 2 [] (accepted z m.snapshots m.rows.mark m.rows.content count) tt (omega arith)
 
 -- nor is it the verdict of a write
@@ -175,26 +173,24 @@ write_other z m t r bs = go (verdict z m (write t r bs)) (not_unsound z m (write
     go (some x) h = h
 
 pub never_unsound : (z : Size) (m : Model) (c : Call) → (reply z m c).number ≢ 20
-unfolding reply bordered border_tests release_tests refusal
+unfolding reply bordered border_tests refusal
 never_unsound z m (one c) = not_unsound z m c
-never_unsound z m (release t) = other 0 (release_tests m.snapshots t) done (omega arith, (omega arith, tt)) (omega arith)
-never_unsound z m (border t rs bs) = go (leb 65 (length rs)) (not (eqb (length bs) (length rs * z.width))) (not (alive m.snapshots t)) (is_released m.released t)
+never_unsound z m (border t rs bs) = go (leb 65 (length rs)) (not (eqb (length bs) (length rs * z.width))) (not (alive m.snapshots t))
   where
     rows : verdict_number (in_order (λ n x. verdict z n (write t x.0 x.1)) (λ n x. effect n (write t x.0 x.1)) m (rows_with z.width rs bs)).refusal ≢ 20
     rows = order_refusal (λ n x. verdict z n (write t x.0 x.1)) (λ n x. effect n (write t x.0 x.1)) (λ v. verdict_number v ≢ 20) (omega arith) (λ n x. write_other z n t x.0 x.1) m (rows_with z.width rs bs)
 
-    go : (a b c d : Bool) → (ended_with (unless (or_else a too_many_rows (or_else b bad_length (or_else c unknown_tag (or_else d tag_released none)))) (stopped m)
+    go : (a b c : Bool) → (ended_with (unless (or_else a too_many_rows (or_else b bad_length (or_else c unknown_tag none))) (stopped m)
         (in_order (λ n x. verdict z n (write t x.0 x.1)) (λ n x. effect n (write t x.0 x.1)) m (rows_with z.width rs bs)))).number ≢ 20
-    go true b c d = omega arith
-    go false true c d = omega arith
-    go false false true d = omega arith
-    go false false false true = omega arith
-    go false false false false = rows
+    go true b c = omega arith
+    go false true c = omega arith
+    go false false true = omega arith
+    go false false false = rows
 
 -- a border that is answered with 0 has done every row
 pub border_all : (z : Size) (m : Model) (t : ℕ) (rs bs : List ℕ) → (reply z m (border t rs bs)).number ≡ 0 → (reply z m (border t rs bs)).numbers ≡ length rs ∷ []
 unfolding reply bordered
-border_all z m t rs bs = go (refusal (border_tests z m.snapshots m.released t rs bs))
+border_all z m t rs bs = go (refusal (border_tests z m.snapshots t rs bs))
   where
     go : (v : Option Refusal) → (let e = unless v (stopped m) (in_order (λ n x. verdict z n (write t x.0 x.1)) (λ n x. effect n (write t x.0 x.1)) m (rows_with z.width rs bs)) in
         (ended_with e).number ≡ 0 → (ended_with e).numbers ≡ length rs ∷ [])
@@ -209,7 +205,6 @@ Spares u (one (write t r bs)) = t ≢ u
 Spares u (one (delete t)) = t ≢ u
 Spares u (one count) = Unit {0}
 Spares u (border t rs bs) = t ≢ u
-Spares u (release t) = Unit {0}
 
 -- every call of a list
 abbrev pub AllSpare : ℕ → List Call → Type 0
@@ -255,35 +250,24 @@ after_lives z m u c h = go (verdict z m c)
     go (some x) = refl
 
 -- of a border, row after row: what every write of another version keeps is kept
-pub border_keeps : (z : Size) (m : Model) (u t : ℕ) (rs bs : List ℕ) (Q : Model → Type 0) → ((n : Model) (r : ℕ) (b : List ℕ) → Q n → Q (effect n (write t r b))) → Q m → Q (bordered z m t rs bs).left
+border_keeps : (z : Size) (m : Model) (u t : ℕ) (rs bs : List ℕ) (Q : Model → Type 0) → ((n : Model) (r : ℕ) (b : List ℕ) → Q n → Q (effect n (write t r b))) → Q m → Q (bordered z m t rs bs).left
 unfolding bordered
-border_keeps z m u t rs bs Q f q = go (refusal (border_tests z m.snapshots m.released t rs bs))
+border_keeps z m u t rs bs Q f q = go (refusal (border_tests z m.snapshots t rs bs))
   where
     go : (v : Option Refusal) → Q (unless v (stopped m) (in_order (λ n x. verdict z n (write t x.0 x.1)) (λ n x. effect n (write t x.0 x.1)) m (rows_with z.width rs bs))).left
     go none = order_keeps (λ n x. verdict z n (write t x.0 x.1)) (λ n x. effect n (write t x.0 x.1)) Q (λ n x k. f n x.0 x.1 k) m (rows_with z.width rs bs) q
     go (some r) = q
 
--- a release changes no row, and nobody's life
-pub release_spares : (z : Size) (m : Model) (t : ℕ) → ((next z m (release t)).rows ≡ m.rows) × ((next z m (release t)).snapshots ≡ m.snapshots)
-unfolding next releasing
-release_spares z m t = go (refusal (release_tests m.snapshots t))
-  where
-    go : (v : Option Refusal) → ((unless v (λ x. m) (releasing t m)).rows ≡ m.rows) × ((unless v (λ x. m) (releasing t m)).snapshots ≡ m.snapshots)
-    go none = (refl, refl)
-    go (some x) = (refl, refl)
-
 -- any call that spares a version
-pub next_spares : (z : Size) (m : Model) (u r : ℕ) (c : Call) → Spares u c → (next z m c).rows.content (u, r) ≡ m.rows.content (u, r)
+next_spares : (z : Size) (m : Model) (u r : ℕ) (c : Call) → Spares u c → (next z m c).rows.content (u, r) ≡ m.rows.content (u, r)
 unfolding next
 next_spares z m u r (one c) h = after_spares z m u r c h
 next_spares z m u r (border t rs bs) h = border_keeps z m u t rs bs (λ n. n.rows.content (u, r) ≡ m.rows.content (u, r)) (λ n k b e. effect_spares n u r (write t k b) h ∙ e) refl
-next_spares z m u r (release t) h = ap (λ (k : Copies (List ℕ)). k.content (u, r)) (release_spares z m t).0
 
-pub next_lives : (z : Size) (m : Model) (u : ℕ) (c : Call) → Spares u c → alive (next z m c).snapshots u ≡ alive m.snapshots u
+next_lives : (z : Size) (m : Model) (u : ℕ) (c : Call) → Spares u c → alive (next z m c).snapshots u ≡ alive m.snapshots u
 unfolding next
 next_lives z m u (one c) h = after_lives z m u c h
 next_lives z m u (border t rs bs) h = border_keeps z m u t rs bs (λ n. alive n.snapshots u ≡ alive m.snapshots u) (λ n k b e. effect_lives n u (write t k b) h ∙ e) refl
-next_lives z m u (release t) h = ap (λ (x : List ℕ). alive x u) (release_spares z m t).1
 
 -- a version reads as when it was last changed: calls that neither write it, delete it nor take its tag leave it alive and leave its rows
 pub lives_on : (z : Size) (u : ℕ) (cs : List Call) (m : Model) → AllSpare u cs → alive (final z m cs).snapshots u ≡ alive m.snapshots u

@@ -4,5 +4,4 @@ pub mod Leaving
 pub mod Cases
 pub mod Consequences
 pub mod Borders
-pub mod Released
 pub mod Stores

@@ -1,32 +1,25 @@
 -- What follows of every store, after any list of calls on it: what Consequences says of the model, in the store's own terms. Assumes nothing.
-use Rattle.std.specs.Prelude.{◌≡◌, refl, ◌≢◌, ◌↔◌, true, false, ℕ, ◌≤◌, ◌<◌, length}
+use Rattle.std.specs.Prelude.{◌≡◌, ◌≢◌, ◌↔◌, true, false, ℕ, ◌≤◌, ◌<◌, length}
 use Rattle.std.proofs.Math.Path.{sym, ap}
 use Rattle.std.proofs.Common.{◌∙◌}
 use mathlib.Core.List.{List, [], ◌∷◌}
-use Rattle.std.proofs.Math.Option.{none}
 use Rattle.measures.specs.declared.Size.{Size}
 use Rattle.records.specs.Records.{Records, table, lives, tag_place}
 use Rattle.trees.specs.Trees.{snapshots, used}
 use Rattle.answers.specs.Answers.{Answer, row}
-use Rattle.model.specs.Call.{snapshot, read, write, delete, Call, one, border, release}
-use Rattle.model.specs.Model.{Model, is_released, reply, next, answers, final}
+use Rattle.model.specs.Call.{snapshot, read, write, delete, Call, one, border}
+use Rattle.model.specs.Model.{Model, reply, next, answers, final}
 use Rattle.copies.specs.Copies.{alive, snapshots_alive, shared}
 use Rattle.copies.specs.Counting.{shared_yes, shared_some}
+use Rattle.edits.specs.Edits.{Whole}
 use Rattle.reads.specs.Reads.{row_of_tag}
-use Rattle.view.specs.View.{view, started}
-use Rattle.edits.specs.Solve.{version_lives}
+use Rattle.view.specs.View.{view, Store, started}
 use Rattle.view.specs.Viewed.{view_snapshots}
-use Rattle.kept.specs.Kept.{Kept, SoundKept, released_tag}
-use Rattle.store.specs.Store.{kept_release_verdict, flagged}
-use Rattle.keeping.specs.Keeps.{StoreKept, WholeKept, started_kept}
-use Rattle.keeping.specs.Flags.{released_node}
-use Rattle.keeping.specs.Released.{flag_again}
-use Rattle.theorem.specs.Trace.{State, state, state_flags, CallEnds, release_ends, Trace, over, then, Equals}
+use Rattle.theorem.specs.Trace.{State, CallEnds, Trace, over, then, Equals}
 use Rattle.theorem.specs.Theorem.{theorem_sound}
 use Rattle.theorem.specs.Leaving.{call_leaves, leaves_untouched, leaves_none}
 use Rattle.theorem.specs.Consequences as model
 use Rattle.theorem.specs.Borders as borders
-use Rattle.theorem.specs.Released as released
 use Rattle.theorem.specs.Consequences.{AllSpare}
 
 -- another living version reads the row from the same place
@@ -48,15 +41,15 @@ none_unsound z m [] = tt
 none_unsound z m (c ∷ cs) = (model.never_unsound z m c, none_unsound z (next z m c) cs)
 
 -- a store and the model that starts with it
-module _ (s : State) (st : StoreKept s.kept s.places) (w : WholeKept s.kept) where
+module _ (s : State) (st : Store s.records s.places) (w : Whole s.records.tree) where
   abbrev its : Model
-  its = started_kept s.kept s.places
+  its = started s.records s.places
 
-  equals : Equals s.kept.records.size s its
+  equals : Equals s.records.size s its
   unfolding final
-  equals = (theorem_sound s.kept s.places st w over).1
+  equals = (theorem_sound s.records s.places st w over).1
 
-  shares_iff : (tag r : ℕ) → lives s.kept.records tag ≡ true → r < s.kept.records.size.rows → Shares s.kept.records tag r ↔ (shared its.snapshots its.rows.mark tag r ≡ true)
+  shares_iff : (tag r : ℕ) → lives s.records tag ≡ true → r < s.records.size.rows → Shares s.records tag r ↔ (shared its.snapshots its.rows.mark tag r ≡ true)
   shares_iff tag r a l =
       let e = equals in
       let b = sym (e.living tag) ∙ a in (
@@ -64,74 +57,61 @@ module _ (s : State) (st : StoreKept s.kept s.places) (w : WholeKept s.kept) whe
         λ h. let (u, c, d, f) = shared_some its.snapshots its.rows.mark tag r h in (u, e.living u ∙ c, d, (e.sharing u tag r c b l).1 f),
       )
 
-  alive_snapshots : snapshots_alive its.snapshots ≡ snapshots s.kept.records.tree
-  unfolding started_kept started view
-  alive_snapshots = view_snapshots s.kept.records st.sound.records s.places
+  alive_snapshots : snapshots_alive its.snapshots ≡ snapshots s.records.tree
+  unfolding started view
+  alive_snapshots = view_snapshots s.records st.sound s.places
 
   -- one call: what it hands out is the model's
-  answered : {c : Call} {h : Answer} {s' : State} → CallEnds s.kept s.places c h s' → h ≡ reply s.kept.records.size its c
+  answered : {c : Call} {h : Answer} {s' : State} → CallEnds s.records s.places c h s' → h ≡ reply s.records.size its c
   unfolding answers
-  answered {c} {h} k = let e = (theorem_sound s.kept s.places st w (then k over)).0 in cc
+  answered {c} {h} k = let e = (theorem_sound s.records s.places st w (then k over)).0 in cc
 
 -- Any list of calls on a store
 
-module _ {s s' : State} {cs : List Call} {hs : List Answer} (st : StoreKept s.kept s.places) (w : WholeKept s.kept) (t : Trace s cs hs s') where
-  ends : Equals s.kept.records.size s' (final s.kept.records.size (its s st w) cs)
-  ends = (theorem_sound s.kept s.places st w t).1
+module _ {s s' : State} {cs : List Call} {hs : List Answer} (st : Store s.records s.places) (w : Whole s.records.tree) (t : Trace s cs hs s') where
+  ends : Equals s.records.size s' (final s.records.size (its s st w) cs)
+  ends = (theorem_sound s.records s.places st w t).1
 
   -- it leaves a store again, of the same size
-  pub stays_store : StoreKept s'.kept s'.places
+  pub stays_store : Store s'.records s'.places
   stays_store = ends.store
 
-  pub stays_whole : WholeKept s'.kept
+  pub stays_whole : Whole s'.records.tree
   stays_whole = ends.whole
 
-  pub stays_sized : s'.kept.records.size ≡ s.kept.records.size
+  pub stays_sized : s'.records.size ≡ s.records.size
   stays_sized = ends.sized
 
   pub never_unsound : NoneUnsound hs
-  never_unsound = rw (theorem_sound s.kept s.places st w t).0 (none_unsound s.kept.records.size (its s st w) cs)
+  never_unsound = rw (theorem_sound s.records s.places st w t).0 (none_unsound s.records.size (its s st w) cs)
 
   -- calls that neither write a version, delete it nor take its tag leave it alive, and leave its rows
-  pub lives_on : (u : ℕ) → AllSpare u cs → lives s'.kept.records u ≡ lives s.kept.records u
-  lives_on u h = ends.living u ∙ model.lives_on s.kept.records.size u cs (its s st w) h ∙ sym ((equals s st w).living u)
+  pub lives_on : (u : ℕ) → AllSpare u cs → lives s'.records u ≡ lives s.records u
+  lives_on u h = ends.living u ∙ model.lives_on s.records.size u cs (its s st w) h ∙ sym ((equals s st w).living u)
 
-  pub reads_as_left : (u r : ℕ) → AllSpare u cs → lives s.kept.records u ≡ true → r < s.kept.records.size.rows → row_of_tag s'.kept.records s'.places u r ≡ row_of_tag s.kept.records s.places u r
+  pub reads_as_left : (u r : ℕ) → AllSpare u cs → lives s.records u ≡ true → r < s.records.size.rows → row_of_tag s'.records s'.places u r ≡ row_of_tag s.records s.places u r
   reads_as_left u r h a l =
       let b = sym ((equals s st w).living u) ∙ a in
-      ends.rows u r (model.lives_on s.kept.records.size u cs (its s st w) h ∙ b) l
-      ∙ model.reads_as_left s.kept.records.size u cs (its s st w) h r
+      ends.rows u r (model.lives_on s.records.size u cs (its s st w) h ∙ b) l
+      ∙ model.reads_as_left s.records.size u cs (its s st w) h r
       ∙ sym ((equals s st w).rows u r b l)
-
-  -- a released version lives on whatever is called, is released, and each of its rows reads as it did
-  pub released_lasts : (u : ℕ) → released_tag s.kept u ≡ true
-      → (lives s'.kept.records u ≡ true) × (released_tag s'.kept u ≡ true) × ((r : ℕ) → r < s.kept.records.size.rows → row_of_tag s'.kept.records s'.places u r ≡ row_of_tag s.kept.records s.places u r)
-  released_lasts u h =
-      let e = equals s st w in
-      let (n, v, d) = released_node s.kept u h in
-      let a = sym (e.living u) ∙ version_lives s.kept.records u n v in
-      let k = released.released_lasts s.kept.records.size u cs (its s st w) a (sym (e.released u) ∙ h) in
-      (ends.living u ∙ k.living, ends.released u ∙ k.released, λ r l. ends.rows u r k.living l ∙ k.reads r ∙ sym (e.rows u r a l))
 
   -- After it, one more call
   module _ {h : Answer} {s'' : State} where
-    -- a write that passes its earlier tests, its version unreleased, gets 24 exactly if its row is shared, every place is in use and its bytes are others, and is else accepted
-    module _ {tag r : ℕ} {bs : List ℕ} (k : CallEnds s'.kept s'.places (one (write tag r bs)) h s'')
-        (long : length bs ≡ s'.kept.records.size.width) (low : r < s'.kept.records.size.rows) (a : lives s'.kept.records tag ≡ true) (unreleased : released_tag s'.kept tag ≡ false) where
+    -- a write that passes its earlier tests gets 24 exactly if its row is shared, every place is in use and its bytes are others, and is else accepted
+    module _ {tag r : ℕ} {bs : List ℕ} (k : CallEnds s'.records s'.places (one (write tag r bs)) h s'')
+        (long : length bs ≡ s'.records.size.width) (low : r < s'.records.size.rows) (a : lives s'.records tag ≡ true) where
       its_alive : alive (its s' stays_store stays_whole).snapshots tag ≡ true
       its_alive = sym ((equals s' stays_store stays_whole).living tag) ∙ a
 
-      its_unreleased : is_released (its s' stays_store stays_whole).released tag ≡ false
-      its_unreleased = sym ((equals s' stays_store stays_whole).released tag) ∙ unreleased
-
-      its_row : row_of_tag s'.kept.records s'.places tag r ≡ (its s' stays_store stays_whole).rows.content (tag, r)
+      its_row : row_of_tag s'.records s'.places tag r ≡ (its s' stays_store stays_whole).rows.content (tag, r)
       its_row = (equals s' stays_store stays_whole).rows tag r its_alive low
 
-      pub write_full : (h.number ≡ 24) ↔ (Shares s'.kept.records tag r × Full s'.kept.records × (bs ≢ row_of_tag s'.kept.records s'.places tag r))
+      pub write_full : (h.number ≡ 24) ↔ (Shares s'.records tag r × Full s'.records × (bs ≢ row_of_tag s'.records s'.places tag r))
       unfolding reply
       write_full =
           let m = its s' stays_store stays_whole in
-          let f = model.write_full s'.kept.records.size m tag r bs long low its_alive its_unreleased in
+          let f = model.write_full s'.records.size m tag r bs long low its_alive in
           let x = shares_iff s' stays_store stays_whole tag r a low in
           let u = (equals s' stays_store stays_whole).in_use in
           rw (answered s' stays_store stays_whole k, its_row) (
@@ -139,85 +119,57 @@ module _ {s s' : State} {cs : List Call} {hs : List Answer} (st : StoreKept s.ke
             λ y. f.1 (x.0 y.0, rw u at y.1, y.2),
           )
 
-      pub write_accepted : (Shares s'.kept.records tag r × Full s'.kept.records × (bs ≢ row_of_tag s'.kept.records s'.places tag r) → ⊥) → h.number ≡ 0
+      pub write_accepted : (Shares s'.records tag r × Full s'.records × (bs ≢ row_of_tag s'.records s'.places tag r) → ⊥) → h.number ≡ 0
       unfolding reply
       write_accepted n =
           let m = its s' stays_store stays_whole in
           let x = shares_iff s' stays_store stays_whole tag r a low in
           let u = (equals s' stays_store stays_whole).in_use in
           ap (λ (x : Answer). x.number) (answered s' stays_store stays_whole k)
-          ∙ model.write_accepted s'.kept.records.size m tag r bs long low its_alive its_unreleased (λ y. n (x.1 y.0, rw u y.1, λ e. y.2 (e ∙ its_row)))
+          ∙ model.write_accepted s'.records.size m tag r bs long low its_alive (λ y. n (x.1 y.0, rw u y.1, λ e. y.2 (e ∙ its_row)))
 
       -- a write of the bytes that the version reads there is accepted and leaves every record and every byte as it was
-      pub write_untouched : bs ≡ row_of_tag s'.kept.records s'.places tag r → (h.number ≡ 0) × (s'' ≡ s')
+      pub write_untouched : bs ≡ row_of_tag s'.records s'.places tag r → (h.number ≡ 0) × (s'' ≡ s')
       write_untouched e = (write_accepted (λ y. y.2 e), call_leaves stays_store.sound k ∙ leaves_untouched s' tag r bs e)
 
     -- a read of a living version's row is accepted; its number counts that version, and is above 1 exactly if another reads the row from its place
-    pub read_tells : {tag r : ℕ} → CallEnds s'.kept s'.places (one (read tag r)) h s'' → r < s'.kept.records.size.rows → lives s'.kept.records tag ≡ true
-        → (n : ℕ) × (h ≡ row (row_of_tag s'.kept.records s'.places tag r) n) × (0 < n) × ((1 < n) ↔ Shares s'.kept.records tag r)
+    pub read_tells : {tag r : ℕ} → CallEnds s'.records s'.places (one (read tag r)) h s'' → r < s'.records.size.rows → lives s'.records tag ≡ true
+        → (n : ℕ) × (h ≡ row (row_of_tag s'.records s'.places tag r) n) × (0 < n) × ((1 < n) ↔ Shares s'.records tag r)
     unfolding reply
     read_tells {tag} {r} k low a =
         let e = equals s' stays_store stays_whole in
         let b = sym (e.living tag) ∙ a in
-        let (n, x, some, many) = model.read_tells s'.kept.records.size (its s' stays_store stays_whole) tag r low b in
+        let (n, x, some, many) = model.read_tells s'.records.size (its s' stays_store stays_whole) tag r low b in
         let y = shares_iff s' stays_store stays_whole tag r a low in
         (n, answered s' stays_store stays_whole k ∙ x ∙ ap (λ (bs : List ℕ). row bs n) (sym (e.rows tag r b low)), some, (λ l. y.1 (many.0 l), λ i. many.1 (y.0 i)))
 
     -- a border that is answered with 0 has done every row
-    pub border_all : {tag : ℕ} {rows bytes : List ℕ} → CallEnds s'.kept s'.places (border tag rows bytes) h s'' → h.number ≡ 0 → h.numbers ≡ length rows ∷ []
-    border_all {tag} {rows} {bytes} k = rw (answered s' stays_store stays_whole k) (model.border_all s'.kept.records.size (its s' stays_store stays_whole) tag rows bytes)
+    pub border_all : {tag : ℕ} {rows bytes : List ℕ} → CallEnds s'.records s'.places (border tag rows bytes) h s'' → h.number ≡ 0 → h.numbers ≡ length rows ∷ []
+    border_all {tag} {rows} {bytes} k = rw (answered s' stays_store stays_whole k) (model.border_all s'.records.size (its s' stays_store stays_whole) tag rows bytes)
 
     -- and one that has done none leaves every record and every byte as it was
-    pub border_none : {tag : ℕ} {rows bytes : List ℕ} → CallEnds s'.kept s'.places (border tag rows bytes) h s'' → h.numbers ≡ 0 ∷ [] → s'' ≡ s'
+    pub border_none : {tag : ℕ} {rows bytes : List ℕ} → CallEnds s'.records s'.places (border tag rows bytes) h s'' → h.numbers ≡ 0 ∷ [] → s'' ≡ s'
     border_none k e = leaves_none stays_store.sound k e
 
     -- with any refusal but 3 and 24 it has done none
-    pub border_early : {tag : ℕ} {rows bytes : List ℕ} → CallEnds s'.kept s'.places (border tag rows bytes) h s'' → h.number ≢ 0 → h.number ≢ 3 → h.number ≢ 24
+    pub border_early : {tag : ℕ} {rows bytes : List ℕ} → CallEnds s'.records s'.places (border tag rows bytes) h s'' → h.number ≢ 0 → h.number ≢ 3 → h.number ≢ 24
         → (h.numbers ≡ 0 ∷ []) × (s'' ≡ s')
     border_early {tag} {rows} {bytes} k =
         let go : h.number ≢ 0 → h.number ≢ 3 → h.number ≢ 24 → h.numbers ≡ 0 ∷ [] =
-        rw (answered s' stays_store stays_whole k) (borders.border_early s'.kept.records.size (its s' stays_store stays_whole) tag rows bytes) in
+        rw (answered s' stays_store stays_whole k) (borders.border_early s'.records.size (its s' stays_store stays_whole) tag rows bytes) in
         λ o p q. (go o p q, border_none k (go o p q))
 
     -- a snapshot is accepted exactly if its tag is neither 0 nor alive, its source lives and fewer than 64 are alive
-    pub snapshot_accepted : {source new : ℕ} → CallEnds s'.kept s'.places (one (snapshot source new)) h s''
-        → (h.number ≡ 0) ↔ ((new ≢ 0) × (lives s'.kept.records source ≡ true) × (lives s'.kept.records new ≡ false) × (snapshots s'.kept.records.tree < 64))
+    pub snapshot_accepted : {source new : ℕ} → CallEnds s'.records s'.places (one (snapshot source new)) h s''
+        → (h.number ≡ 0) ↔ ((new ≢ 0) × (lives s'.records source ≡ true) × (lives s'.records new ≡ false) × (snapshots s'.records.tree < 64))
     unfolding reply
     snapshot_accepted {source} {new} k =
         let e = equals s' stays_store stays_whole in
         rw (answered s' stays_store stays_whole k, e.living source, e.living new, sym (alive_snapshots s' stays_store stays_whole))
-        (model.snapshot_accepted s'.kept.records.size (its s' stays_store stays_whole) source new)
+        (model.snapshot_accepted s'.records.size (its s' stays_store stays_whole) source new)
 
 -- a delete leaves every other version alive, and leaves its rows
-pub delete_others : {s s' : State} {tag : ℕ} {h : Answer} → StoreKept s.kept s.places → WholeKept s.kept → CallEnds s.kept s.places (one (delete tag)) h s'
-    → (u r : ℕ) → tag ≢ u → lives s.kept.records u ≡ true → r < s.kept.records.size.rows
-    → (lives s'.kept.records u ≡ true) × (row_of_tag s'.kept.records s'.places u r ≡ row_of_tag s.kept.records s.places u r)
+pub delete_others : {s s' : State} {tag : ℕ} {h : Answer} → Store s.records s.places → Whole s.records.tree → CallEnds s.records s.places (one (delete tag)) h s'
+    → (u r : ℕ) → tag ≢ u → lives s.records u ≡ true → r < s.records.size.rows
+    → (lives s'.records u ≡ true) × (row_of_tag s'.records s'.places u r ≡ row_of_tag s.records s.places u r)
 delete_others st w k u r d a l = (lives_on st w (then k over) u (d, tt) ∙ a, reads_as_left st w (then k over) u r (d, tt) a l)
-
--- What a mill buys: an accepted release, and then any list of calls at all. The version is alive and released, and each of its rows reads as it did at the release
-
--- a release leaves the records, but for flags, and the places
-release_rows : {k : Kept} {places : List ℕ} {tag : ℕ} {h : Answer} {s' : State} → CallEnds k places (release tag) h s' → (s'.kept.records ≡ k.records) × (s'.places ≡ places)
-release_rows (release_ends e) = (refl, refl)
-
-release_same : {k : Kept} {places : List ℕ} {tag : ℕ} {h : Answer} {s' : State} → CallEnds k places (release tag) h s' → SoundKept k → kept_release_verdict k tag ≡ none → flagged k tag ≡ k.released
-    → (h.number ≡ 0) × (s' ≡ state k places)
-release_same {k} {places} (release_ends e) s v f = ((e.sound s).numbered ∙ rw v, ap (λ (x : List ℕ). state_flags k x places) ((e.sound s).left ∙ rw v f))
-
-module _ {s s₁ : State} {tag : ℕ} {h : Answer} (st : StoreKept s.kept s.places) (w : WholeKept s.kept) (k : CallEnds s.kept s.places (release tag) h s₁) where
-  pub release_releases : h.number ≡ 0 → released_tag s₁.kept tag ≡ true
-  unfolding final
-  release_releases n =
-      (ends st w (then k over)).released tag ∙ released.release_releases s.kept.records.size (its s st w) tag (ap (λ (x : Answer). x.number) (sym (answered s st w k)) ∙ n)
-
-  pub release_lasts : h.number ≡ 0 → {cs : List Call} {hs : List Answer} {s' : State} → Trace s₁ cs hs s'
-      → (lives s'.kept.records tag ≡ true) × (released_tag s'.kept tag ≡ true)
-      × ((r : ℕ) → r < s.kept.records.size.rows → row_of_tag s'.kept.records s'.places tag r ≡ row_of_tag s.kept.records s.places tag r)
-  release_lasts n t =
-      let (e, f) = release_rows k in
-      let (a, b, c) = released_lasts (stays_store st w (then k over)) (stays_whole st w (then k over)) t tag (release_releases n) in
-      (a, b, rw (e, f) at c)
-
-  -- once more it is accepted, and leaves every flag, record and byte as it was
-  pub release_again : released_tag s.kept tag ≡ true → (h.number ≡ 0) × (s₁ ≡ s)
-  release_again b = let (v, f) = flag_again s.kept st.sound w.flags tag b in release_same k st.sound v f

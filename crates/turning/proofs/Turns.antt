@@ -476,7 +476,7 @@ module _ (G : Carried) (F : Facts G) where
             nothing ! $ move ! (1 ∷ 0 ∷ []) $ fjoin ! $ move ! (1 ∷ 0 ∷ []) $ fjoin ! $ move ! (1 ∷ 0 ∷ []) $ fjoin ! $ move ! (1 ∷ 0 ∷ []) $ fjoin ! $
             nothing ! $ fjoin ! $ nothing ! $ fjoin ! $ nothing ! $ fjoin ! $ owned ! G.type (Is G.type) (G.made 𝓛) t.r (G.low t.r ∷ []) t.is $ move ! (1 ∷ 0 ∷ []) $ done !
 
-        module _ (𝓣 : Tables 𝓤 H) (make here moved serve : Name) (met-make : Triple 𝓤 (𝓣.C make) (Told Make 𝓛)) (met_here : Triple 𝓤 (𝓣.C here) (Told CommandHere 𝓛))
+        module _ (𝓣 : Tables 𝓤 H) (make here moved serve : Name) (met-make : Triple 𝓤 (𝓣.C make) (Told Make 𝓛)) (met-here : Triple 𝓤 (𝓣.C here) (Told CommandHere 𝓛))
             (met-moved : Triple 𝓤 (𝓣.C moved) (Told (Takes Moved) 𝓛)) (met-serve : Triple 𝓤 (𝓣.C serve) (Serve 𝓛)) where
           abbrev C : Calls 𝓤 H
           C = 𝓣.C
@@ -531,7 +531,7 @@ module _ (G : Carried) (F : Facts G) where
                 assigns ! (of_opd ! (var ! 23 refl)) (from ! (stop !)) (init ! 18 refl wt) $
                 -- [the stream, the reader, the token, the slices, the locals]: the command is read
                 move ! (1 ∷ []) $ use1 𝓛 (‵ (Own d) ⊛ ‵ (Own d)) (own_twice d) $ split ! $ nothing ! $ owned ! usize (Is usize) (uint_Makes 𝓛 w64) w _ (refl, w_Fits) $ fjoin ! $ move ! (1 ∷ 0 ∷ []) $ fjoin ! $ move ! (0 ∷ 3 ∷ []) $
-                hears CommandHere ! fm met_here κ q (d, (w, tt)) (R'.lowered d ∷ [], (uint_vals w64 w, tt)) (F.wide s.now w r₀ L₀ t.p t.r t.L t.inv) (and_then ! (var ! 18 refl) (and_then ! (var ! 28 refl) (no_more !))) (λ st u e is.
+                hears CommandHere ! fm met-here κ q (d, (w, tt)) (R'.lowered d ∷ [], (uint_vals w64 w, tt)) (F.wide s.now w r₀ L₀ t.p t.r t.L t.inv) (and_then ! (var ! 18 refl) (and_then ! (var ! 28 refl) (no_more !))) (λ st u e is.
                 -- [the step, the token, the reader, the stream, the slices, the locals]
                 land ! (from ! (stop !)) (init ! 22 refl (a_step.typed 𝓛 st u is)) $ rewrite ! 22 (λ (v : Val). ‵ (fat full_share S'.mir l10 0 v)) (step_spelt st u is) refl $ drop ! $
                 assigns ! (of_opd ! (load ! (from ! (fld ! refl (stop !))) (look_in ! 21 (sub ! 1 refl (whole !))))) (from ! (stop !)) (init ! 20 refl (tt, record { fits = next_fits st u is })) $
@@ -599,7 +599,7 @@ module _ (G : Carried) (F : Facts G) where
               first ! $ blocks ! $ loops ! 𝓣 Less less_ends (Between l0 l1 l2 l3 l4 l5 l6 l7 l8 l9 l10 l11 l12 l13 l14 l15 l16 l17 l18 l19 l20 l21 l22 l23 l24 (Untouched l0 l1 l2 l3 l4 l5 l6 l7 l8 l9 l10 l11 l12 l13 l14 l15 l16 l17 l18 l19 l20 l21 l22 l23 l24)) (walk_turn l0 l1 l2 l3 l4 l5 l6 l7 l8 l9 l10 l11 l12 l13 l14 l15 l16 l17 l18 l19 l20 l21 l22 l23 l24 (Untouched l0 l1 l2 l3 l4 l5 l6 l7 l8 l9 l10 l11 l12 l13 l14 l15 l16 l17 l18 l19 l20 l21 l22 l23 l24) (leaves l0 l1 l2 l3 l4 l5 l6 l7 l8 l9 l10 l11 l12 l13 l14 l15 l16 l17 l18 l19 l20 l21 l22 l23 l24))
               (record { p = 0; r = r₀; L = L₀; reads = known x (placed s 0) v same is; is = r₀_is; fit = fit₀; inv = F.start s.now w r₀ L₀ pre }))))))))))))))))))))))))))))
 
-  module _ {M : Type 1} {𝓤 : Ura M} (𝓛 : Logic 𝓤) (𝓣 : Tables 𝓤 𝓛.H) (make here moved serve : Name) (met-make : Triple 𝓤 (𝓣.C make) (Told Make 𝓛)) (met_here : Triple 𝓤 (𝓣.C here) (Told CommandHere 𝓛))
+  module _ {M : Type 1} {𝓤 : Ura M} (𝓛 : Logic 𝓤) (𝓣 : Tables 𝓤 𝓛.H) (make here moved serve : Name) (met-make : Triple 𝓤 (𝓣.C make) (Told Make 𝓛)) (met-here : Triple 𝓤 (𝓣.C here) (Told CommandHere 𝓛))
       (met-moved : Triple 𝓤 (𝓣.C moved) (Told (Takes Moved) 𝓛)) (met-serve : Triple 𝓤 (𝓣.C serve) (Serve 𝓛)) where
     open 𝓛 use {H}
 
@@ -612,7 +612,7 @@ module _ (G : Carried) (F : Facts G) where
         needs 𝓤 (F.Pre a.0.now a.1.0 a.1.1.0 L₀) _ (lines_walk 𝓛 κs.0 qs.0 a.0
         (borrowed {R = u8} κs.1.0 qs.1.0 a.1.1.1.0 are.1.1.1.0.0.1) (borrowed {R = u16} κs.1.1.0 qs.1.1.0 a.1.1.1.1.0 are.1.1.1.1.0.0.1)
         (borrowed {R = u8} κs.1.1.1.0 qs.1.1.1.0 a.1.1.1.1.1.0 are.1.1.1.1.1.0.0.1) (borrowed {R = u8} κs.1.1.1.1.0 qs.1.1.1.1.0 a.1.1.1.1.1.1.0 are.1.1.1.1.1.1.0.0.1)
-        are.0 a.1.0 are.1.0.1 a.1.1.0 are.1.1.0 L₀ (record { node = refl; row = refl; places = refl; out = refl }) 𝓣 make here moved serve met-make met_here met-moved met-serve))
+        are.0 a.1.0 are.1.0.1 a.1.1.0 are.1.1.0 L₀ (record { node = refl; row = refl; places = refl; out = refl }) 𝓣 make here moved serve met-make met-here met-moved met-serve))
 
     meets : Meets 𝓛 lines_ended.signature (WpFn 𝓤 H 𝓣.C 𝓣.Λ (lines_code G make here moved serve)) (closing 𝓛 lines_ended (lines_clauses 𝓤))
     meets =

@@ -1,8 +1,7 @@
 -- Read and count on a store are steps of its view: they answer as the place map does, and change nothing. Assumes nothing.
-use Rattle.std.specs.Prelude.{◌≡◌, refl, ℕ, length}
+use Rattle.std.specs.Prelude.{◌≡◌, refl, List, ℕ, length}
 use Rattle.std.proofs.Math.Path.{sym}
 use Rattle.std.proofs.Common.{◌∙◌, ap, ap₂, eq-eqb}
-use mathlib.Core.List.{List, []}
 use Rattle.std.proofs.Math.Option.{Option, none, some}
 use Rattle.basics.specs.Decide.{not_no}
 use Rattle.records.specs.Records.{Records}
@@ -39,7 +38,7 @@ module _ (z : Records) (places : List ℕ) (st : Store z places) where
   read_sharers : (tag r : ℕ) → map_verdict z.size (view z places) (read tag r) ≡ none → sharers_of_tag z tag r ≡ sharers (view z places).tags (view z places).place tag r
   unfolding map_verdict
   read_sharers tag r e =
-      let (l, m) = read_passed z.size (view z places).tags (view z places).place (λ d. (view z places).content ((view z places).place d)) [] tag r e in
+      let (l, m) = read_passed z.size (view z places).tags (view z places).place (λ d. (view z places).content ((view z places).place d)) tag r e in
       sym (view_sharers z st.sound places tag r (sym (view_alive z st.sound places tag) ∙ l))
 
 pub read_step : (z : Records) (places : List ℕ) → Store z places → (tag r : ℕ) → Step z.size (view z places) (read tag r) (read_answer z places tag r) (view z places)

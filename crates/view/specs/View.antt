@@ -27,7 +27,7 @@ pub record Store (z : Records) (places : List ℕ) : Type 0 where
   pub sound : Sound z
   pub size : length places ≡ z.size.places * z.size.width
 
--- the model that starts with the bytes the versions read, its first marks the places they read, where nothing is released
+-- the model that starts with the bytes the versions read, its first marks the places they read
 unfoldable pub started : Records → List ℕ → Model
 started z places = record {
   snapshots = tags_below z.tree 128;
@@ -36,7 +36,6 @@ started z places = record {
     mark = λ c. tag_place z c.0 c.1;
     next = z.size.places;
   };
-  released = [];
 }
 
 -- THE AGREEMENT of a store with the reference model, one relation for all calls: the same tags live, every row of every living version

@@ -24,8 +24,6 @@ pub struct Version {
 pub struct Node {
     /// None for a ghost.
     pub tag: Option<u16>,
-    /// Its version is released, and is not deleted.
-    pub released: bool,
     /// The rows that it has of its own, and the place of each.
     pub own: Vec<(usize, usize)>,
     /// The nodes that hang on it.
@@ -144,7 +142,6 @@ fn held_by(nodes: &BTreeMap<usize, Node>, measures: Measures) -> Vec<Option<(usi
 fn nodes_of(records: &Records) -> BTreeMap<usize, Node> {
     let node = |n: usize| Node {
         tag: (!records.is_ghost(n)).then(|| records.tag(n)),
-        released: records.is_released(n),
         own: records.own_rows(n),
         children: (1..NODES)
             .filter(|&m| records.in_use(m) && records.parent(m) == n)

@@ -177,7 +177,6 @@ fn draw_node(picture: &Picture, number: usize, at: (usize, usize), canvas: &mut 
     let node = &picture.nodes[&number];
     let (name, outline) = match node.tag {
         Some(0) => ("origin".to_string(), ""),
-        Some(tag) if node.released => (format!("tag {tag}"), r#" stroke-width="3""#),
         Some(tag) => (format!("tag {tag}"), ""),
         None => ("ghost".to_string(), r#" stroke-dasharray="4 3""#),
     };
@@ -185,10 +184,7 @@ fn draw_node(picture: &Picture, number: usize, at: (usize, usize), canvas: &mut 
     let frees = picture.version_at(number).map(|version| &version.frees);
     let mut title = format!("{name}, node {number}; own rows: {}", or_none(own));
     let mut said = format!("own {}", node.own.len());
-    if node.released {
-        title += "; released";
-        said += ", released";
-    } else if let (Some(places), false) = (frees, number == 0) {
+    if let (Some(places), false) = (frees, number == 0) {
         let freed = or_none(ranges(places.iter().copied()));
         let _ = write!(title, "; its deletion frees places: {freed}");
         let _ = write!(said, ", frees {}", places.len());

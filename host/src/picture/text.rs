@@ -41,11 +41,10 @@ fn summary(picture: &Picture) -> String {
     )
 }
 
-/// "tag 7 (node 3)", or "tag 7, released (node 3)".
+/// "tag 7 (node 3)".
 fn label(number: usize, node: &Node) -> String {
     match node.tag {
         Some(0) => format!("origin (node {number})"),
-        Some(tag) if node.released => format!("tag {tag}, released (node {number})"),
         Some(tag) => format!("tag {tag} (node {number})"),
         None => format!("ghost (node {number})"),
     }
@@ -89,22 +88,20 @@ fn branch(
     }
 }
 
-/// A node's own rows, and what its version's deletion would free; a released one is not deleted.
+/// A node's own rows, and what its version's deletion would free.
 fn node_words(picture: &Picture, number: usize) -> String {
     if number == 0 {
         return String::new();
     }
-    let Node { own, released, .. } = &picture.nodes[&number];
+    let own = &picture.nodes[&number].own;
     let rows = match own.len() {
         0 => "no own rows".to_string(),
         1 => format!("own row {}", own[0].0),
         _ => format!("own rows {}", ranges(own.iter().map(|&(row, _)| row))),
     };
     match picture.version_at(number) {
-        Some(version) if !released => {
-            format!("{rows}; its deletion frees {}", freed(&version.frees))
-        }
-        _ => rows,
+        None => rows,
+        Some(version) => format!("{rows}; its deletion frees {}", freed(&version.frees)),
     }
 }
 

@@ -35,9 +35,6 @@ pub enum Call {
     Delete {
         tag: u16,
     },
-    Release {
-        tag: u16,
-    },
     Count,
 }
 
@@ -78,7 +75,6 @@ impl Call {
             Call::Write { .. } => "write",
             Call::Border { .. } => "border",
             Call::Delete { .. } => "delete",
-            Call::Release { .. } => "release",
             Call::Count => "count",
         }
     }
@@ -120,9 +116,7 @@ impl Call {
     /// Whether the call may have changed lent bytes.
     pub fn may_change(&self, outcome: &Outcome) -> bool {
         match self {
-            Call::Snapshot { .. } | Call::Delete { .. } | Call::Release { .. } => {
-                outcome.answer == 0
-            }
+            Call::Snapshot { .. } | Call::Delete { .. } => outcome.answer == 0,
             _ => self.done(outcome) > 0,
         }
     }
@@ -166,7 +160,6 @@ impl Call {
                 }
             }
             Call::Delete { tag } => Outcome::plain(S::delete(records, *tag)),
-            Call::Release { tag } => Outcome::plain(S::release(records, *tag)),
             Call::Count => {
                 let (answer, used, snapshots) = S::count(records);
                 Outcome::with_numbers(answer, &[used, snapshots])
@@ -205,7 +198,6 @@ impl Call {
                 Outcome::with_numbers(answer, &[done])
             }
             Call::Delete { tag } => Outcome::plain(copies.delete(*tag)),
-            Call::Release { tag } => Outcome::plain(copies.release(*tag)),
             Call::Count => {
                 let (used, snapshots) = copies.count();
                 Outcome::with_numbers(0, &[used, snapshots])
@@ -245,8 +237,8 @@ pub enum Source {
 #[derive(Clone, Copy)]
 pub struct Habit {
     pub name: &'static str,
-    /// Of snapshot, read, write, border, delete, count and release.
-    pub weights: [usize; 7],
+    /// Of snapshot, read, write, border, delete and count.
+    pub weights: [usize; 6],
     pub source: Source,
     /// Tags are drawn up to this one.
     pub highest_tag: usize,
@@ -257,7 +249,7 @@ impl Habit {
     /// All calls, of any version.
     pub const MIXED: Habit = Habit {
         name: "mixed",
-        weights: [20, 15, 40, 10, 15, 10, 3],
+        weights: [20, 15, 40, 10, 15, 10],
         source: Source::Any,
         highest_tag: 9,
         calls: 120,
@@ -301,10 +293,7 @@ impl Habit {
             4 => Call::Delete {
                 tag: self.draw_tag(dice, copies),
             },
-            5 => Call::Count,
-            _ => Call::Release {
-                tag: self.draw_tag(dice, copies),
-            },
+            _ => Call::Count,
         }
     }
 

@@ -2,25 +2,6 @@
 
 use std::collections::BTreeMap;
 
-/// Of what kinds releases must have been, and what must have been refused since a version is released.
-pub const RELEASES: [&str; 5] = [
-    "of the origin",
-    "of a dead version",
-    "of a released version",
-    "of a snapshot",
-    "then copied",
-];
-pub const REFUSED_RELEASED: [&str; 8] = [
-    "delete",
-    "write of equal bytes",
-    "write without a place",
-    "write",
-    "border of no row",
-    "border without a row",
-    "border without a place",
-    "border",
-];
-
 #[derive(Default)]
 pub struct Tally {
     seeds: usize,

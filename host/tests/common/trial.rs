@@ -5,7 +5,7 @@ use super::tally::Tally;
 use rowstore_host::copies::{Copies, Version};
 use rowstore_host::dice::Dice;
 use rowstore_host::judge::Records;
-use rowstore_host::layout::{flags, Measures, FLAGS, NODES, TABLE};
+use rowstore_host::layout::{Measures, TABLE};
 use rowstore_host::store::answer::*;
 use rowstore_host::store::{Store, MAX_BORDER};
 use std::fmt::Debug;
@@ -55,13 +55,7 @@ pub fn adopted(records: &Records, places: &[u8]) -> Copies {
         let marks: Vec<usize> = (0..measures.rows).map(place).collect();
         let row_bytes = |&place: &usize| &places[measures.stretch(place)];
         let bytes = marks.iter().flat_map(row_bytes).copied().collect();
-        let released = records.is_released(living_node(records, tag));
-        let version = Version {
-            bytes,
-            marks,
-            released,
-        };
-        (tag, version)
+        (tag, Version { bytes, marks })
     };
     let versions = records.tags().into_iter().map(version).collect();
     Copies::of(measures, versions)
@@ -187,10 +181,6 @@ impl<S: Store> Trial<S> {
         self.call(&Call::Delete { tag }).answer
     }
 
-    pub fn release(&mut self, tag: u16) -> u8 {
-        self.call(&Call::Release { tag }).answer
-    }
-
     /// Draws calls, and now and then lends records of a wrong length.
     pub fn draw(&mut self, dice: &mut Dice, habit: &Habit) {
         for _ in 0..habit.calls {
@@ -209,7 +199,6 @@ impl<S: Store> Trial<S> {
         self.made += 1;
         let before = (self.records.clone(), self.places.clone());
         self.note_delete(call);
-        self.note_release(call);
         let turns = self.turns(call);
         let wanted = call.on_copies(&mut self.copies);
         let len = self.measures.records_len();
@@ -232,10 +221,8 @@ impl<S: Store> Trial<S> {
             let equal = turns[done.len()].equal;
             self.check(&equal, &false, call, "equal bytes that are refused");
         }
-        self.check_flags(call, &got, &before.0);
         self.tally.untouched += 1;
         self.note_read(call, &got);
-        self.note_released(call, &got, &turns);
         self.note_write(call, !written && !done.is_empty());
         self.note_border(call, &got, done, &before.0);
         if let (Call::Snapshot { tag, .. }, 0) = (call, got.answer) {
@@ -274,7 +261,7 @@ impl<S: Store> Trial<S> {
     /// Counts what kind of node an accepted delete will take away.
     fn note_delete(&mut self, call: &Call) {
         let Call::Delete { tag } = *call else { return };
-        if tag == 0 || !self.copies.tags().contains(&tag) || self.copies.released(tag) {
+        if tag == 0 || !self.copies.tags().contains(&tag) {
             return;
         }
         let records = self.parsed();
@@ -290,49 +277,6 @@ impl<S: Store> Trial<S> {
             (_, true) => "node with several children under a ghost",
         };
         self.tally.meet("deletes", shape);
-    }
-
-    /// Counts of what kind a release is going to be, and of what kind of version a snapshot is.
-    fn note_release(&mut self, call: &Call) {
-        match *call {
-            Call::Release { tag } => {
-                let kind = match self.copies.tags().contains(&tag) {
-                    _ if tag == 0 => "of the origin",
-                    false => "of a dead version",
-                    true if self.copies.released(tag) => "of a released version",
-                    true => "of a snapshot",
-                };
-                self.tally.meet("releases", kind);
-            }
-            Call::Snapshot { source, tag } => {
-                let tags = self.copies.tags();
-                let new = tag != 0 && !tags.contains(&tag) && tags.len() < 65;
-                if new && tags.contains(&source) && self.copies.released(source) {
-                    self.tally.meet("releases", "then copied");
-                }
-            }
-            _ => {}
-        }
-    }
-
-    /// Counts what was refused since the version is released.
-    fn note_released(&mut self, call: &Call, got: &Outcome, turns: &[Turn]) {
-        if got.answer != TAG_RELEASED {
-            return;
-        }
-        let full = self.copies.count().0 == self.measures.places;
-        let moves = |turn: &Turn| !turn.equal && turn.own_place.is_none();
-        let kind = match call {
-            Call::Delete { .. } => "delete",
-            Call::Write { .. } if turns[0].equal => "write of equal bytes",
-            Call::Write { .. } if full && moves(&turns[0]) => "write without a place",
-            Call::Write { .. } => "write",
-            Call::Border { rows, .. } if rows.is_empty() => "border of no row",
-            Call::Border { rows, .. } if turns.len() < rows.len() => "border without a row",
-            Call::Border { .. } if full && turns.iter().any(moves) => "border without a place",
-            _ => "border",
-        };
-        self.tally.meet("refused with 26", kind);
     }
 
     /// Counts of what kinds a read was.
@@ -472,25 +416,11 @@ impl<S: Store> Trial<S> {
         self.check(&self.places, &wanted, call, "the places not written");
     }
 
-    /// An accepted release sets its version's flag, and no other byte; no other call changes a flag.
-    fn check_flags(&self, call: &Call, got: &Outcome, before: &[u8]) {
-        let mut wanted = before.to_vec();
-        if let (&Call::Release { tag }, 0) = (call, got.answer) {
-            let node = living_node(&self.parsed_of(before), tag);
-            wanted[FLAGS + node] = 1;
-            self.check(&self.records, &wanted, call, "the records of a release");
-        }
-        let flags_of = |records: &[u8]| flags(records).to_vec();
-        let (now, due) = (flags_of(&self.records), flags_of(&wanted));
-        self.check(&now, &due, call, "the flags");
-    }
-
     fn compare(&mut self) {
         match self.care {
             Care::Whole => self.compare_all(1),
             Care::Sample { rows, judge_every } => {
                 let records = self.parsed();
-                self.compare_releases(&records);
                 for _ in 0..rows {
                     let tag = self.dice.pick(&self.copies.tags());
                     let row = self.dice.below(self.measures.rows);
@@ -510,7 +440,6 @@ impl<S: Store> Trial<S> {
     pub fn compare_all(&mut self, stride: usize) {
         let records = self.parsed();
         self.judge(&records);
-        self.compare_releases(&records);
         for row in 0..self.measures.rows {
             self.compare_sharing(&records, row);
         }
@@ -523,17 +452,6 @@ impl<S: Store> Trial<S> {
             }
         }
         self.compare_count();
-    }
-
-    /// A flag is set exactly at the released versions.
-    fn compare_releases(&self, records: &Records) {
-        let tags = self.copies.tags();
-        let released = tags.iter().filter(|&&tag| self.copies.released(tag));
-        let mut due: Vec<usize> = released.map(|&tag| living_node(records, tag)).collect();
-        due.sort();
-        let flagged = |&node: &usize| records.is_released(node);
-        let got: Vec<usize> = (0..NODES).filter(flagged).collect();
-        assert_eq!(got, due, "{}: the nodes released", self.at());
     }
 
     /// What the store reads: the row's bytes, and how many share it.

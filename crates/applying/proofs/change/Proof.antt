@@ -24,12 +24,6 @@ enum-known-found-3 c = search rules
 delete-requires : tie.Need-delete-requires
 delete-requires c κs = ready_room c.before.before.before.before.before.before.before.before.before.before.before.requires.0 12 c.before.before.before.before.found3.given.1 refl (omega arith)
 
-enum-known-found-4 : tie.Need-enum-known-found-4
-enum-known-found-4 c = search rules
-
-release-requires : tie.Need-release-requires
-release-requires c κs = ready_room c.before.before.before.before.before.before.before.before.before.before.before.requires.0 12 c.before.before.before.before.found4.given.1 refl (omega arith)
-
 enum_told : tie.Need-enum-told
 enum_told c = search rules
 
@@ -84,32 +78,20 @@ same-length-10 c = search rules
 returns-3 : tie.Need-returns-3
 returns-3 c = turn_step _ c.before.before.before.before.before.before.before.before.before.before.before.before.before.before.before.before.before.before.requires.0.stands c.before.before.before.before.before.before.before.before.before.before.before.found3.given.1 refl (c.before.before.before.before.before.before.delete.ensures _)
 
-same-length-11 : tie.Need-same-length-11
-same-length-11 c = search rules
-
-same-length-12 : tie.Need-same-length-12
-same-length-12 c = search rules
-
-same-length-13 : tie.Need-same-length-13
-same-length-13 c = search rules
-
 returns-4 : tie.Need-returns-4
-returns-4 c = turn_step _ c.before.before.before.before.before.before.before.before.before.before.before.before.before.before.requires.0.stands c.before.before.before.before.before.before.before.found4.given.1 refl (c.before.before.release.ensures _)
+returns-4 c = no_change _ c.enum_told.given.1 refl c.before.before.before.before.before.before.before.requires.1
 
 returns-5 : tie.Need-returns-5
-returns-5 c = no_change _ c.enum_told.given.1 refl c.before.before.before.before.before.before.before.requires.1
+returns-5 c = no_change _ c.enum-told2.given.1 refl c.before.before.before.before.before.before.before.requires.1
 
 returns-6 : tie.Need-returns-6
-returns-6 c = no_change _ c.enum-told2.given.1 refl c.before.before.before.before.before.before.before.requires.1
+returns-6 c = no_change _ c.enum-told3.given.1 refl c.before.before.before.before.before.before.before.requires.1
 
 returns-7 : tie.Need-returns-7
-returns-7 c = no_change _ c.enum-told3.given.1 refl c.before.before.before.before.before.before.before.requires.1
+returns-7 c = no_change _ c.enum-told4.given.1 refl c.before.before.before.before.before.before.before.requires.1
 
 returns-8 : tie.Need-returns-8
-returns-8 c = no_change _ c.enum-told4.given.1 refl c.before.before.before.before.before.before.before.requires.1
-
-returns-9 : tie.Need-returns-9
-returns-9 c = no_change _ c.enum-told5.given.1 refl c.before.before.before.before.before.before.before.requires.1
+returns-8 c = no_change _ c.enum-told5.given.1 refl c.before.before.before.before.before.before.before.requires.1
 
 pub change-spec : {M : Type 1} → statement M
 change-spec =
@@ -121,8 +103,6 @@ change-spec =
     write-requires
     enum-known-found-3
     delete-requires
-    enum-known-found-4
-    release-requires
     enum_told
     enum-told-2
     enum-told-3
@@ -141,12 +121,8 @@ change-spec =
     same-length-9
     same-length-10
     returns-3
-    same-length-11
-    same-length-12
-    same-length-13
     returns-4
     returns-5
     returns-6
     returns-7
-    returns-8
-    returns-9)
+    returns-8)

@@ -1,7 +1,6 @@
 -- `changing::delete` meets its contract. Assumes nothing.
 use borrow.Author.Rules.{rules}
 use Rattle.records.specs.Records.{records_of}
-use Rattle.kept.specs.Kept.{kept}
 use Rattle.progress.specs.Laws.{answered}
 use Rattle.changing.specs.Laws.{delete_replied}
 use Rattle.changing.proofs.delete.Statement.{statement}
@@ -29,7 +28,7 @@ same-length-3 : tie.Need-same-length-3
 same-length-3 c = search rules
 
 returns : tie.Need-returns
-returns c = λ places. answered c.on.ensures (delete_replied (kept (records_of _ _ _ _) _) c.before.before.before.before.before.before.byte.ensures c.before.before.before.before.before.before.before.before.before.before.before.delete.ensures c.before.before.before.plain-line.ensures places)
+returns c = λ places. answered c.on.ensures (delete_replied (records_of _ _ _ _) c.before.before.before.before.before.before.byte.ensures c.before.before.before.before.before.before.before.before.before.before.before.delete.ensures c.before.before.before.plain-line.ensures places)
 
 pub delete-spec : {M : Type 1} → statement M
 delete-spec =

@@ -1,7 +1,6 @@
 -- `changing::snapshot` meets its contract. Assumes nothing.
 use borrow.Author.Rules.{rules}
 use Rattle.records.specs.Records.{records_of}
-use Rattle.kept.specs.Kept.{kept}
 use Rattle.progress.specs.Laws.{answered}
 use Rattle.changing.specs.Laws.{snapshot_replied}
 use Rattle.changing.proofs.snapshot.Statement.{statement}
@@ -23,7 +22,7 @@ same_length : tie.Need-same-length
 same_length c = search rules
 
 returns : tie.Need-returns
-returns c = λ places. answered c.on.ensures (snapshot_replied (kept (records_of _ _ _ _) _) c.before.before.before.before.before.before.byte.ensures c.before.before.before.before.before.before.before.snapshot.ensures c.before.before.before.plain-line.ensures places)
+returns c = λ places. answered c.on.ensures (snapshot_replied (records_of _ _ _ _) c.before.before.before.before.before.before.byte.ensures c.before.before.before.before.before.before.before.snapshot.ensures c.before.before.before.plain-line.ensures places)
 
 pub snapshot-spec : {M : Type 1} → statement M
 snapshot-spec =

@@ -1,7 +1,6 @@
 -- `changing::write` meets its contract. Assumes nothing.
 use borrow.Author.Rules.{rules}
 use Rattle.records.specs.Records.{records_of}
-use Rattle.kept.specs.Kept.{kept}
 use Rattle.progress.specs.Laws.{answered}
 use Rattle.changing.specs.Laws.{write_replied, row_part}
 use Rattle.changing.proofs.write.Statement.{statement}
@@ -38,7 +37,7 @@ plain-line-requires : tie.Need-plain-line-requires
 plain-line-requires c κs = search rules
 
 on-requires : tie.Need-on-requires
-on-requires c κs = c.before.before.before.before.before.before.before.before.before.before.before.before.before.before.before.before.before.before.before.before.before.before.before.before.before.before.requires.0.few
+on-requires c κs = c.before.before.before.before.before.before.before.before.before.before.before.before.before.before.before.before.before.before.before.before.before.before.before.before.requires.0.few
 
 same_length : tie.Need-same-length
 same_length c = search rules
@@ -53,7 +52,7 @@ same-length-4 : tie.Need-same-length-4
 same-length-4 c = search rules
 
 returns : tie.Need-returns
-returns c = answered c.on.ensures (write_replied (kept (records_of _ _ _ _) _) _ c.before.before.before.before.before.before.before.before.before.before.before.before.before.before.pair.ensures (row_part _ _ _) c.before.before.before.before.before.before.byte.ensures c.before.before.before.before.before.before.before.before.before.before.before.before.before.write.ensures c.before.before.before.plain-line.ensures)
+returns c = answered c.on.ensures (write_replied (records_of _ _ _ _) _ c.before.before.before.before.before.before.before.before.before.before.before.before.before.before.pair.ensures (row_part _ _ _) c.before.before.before.before.before.before.byte.ensures c.before.before.before.before.before.before.before.before.before.before.before.before.before.write.ensures c.before.before.before.plain-line.ensures)
 
 pub write_spec : {M : Type 1} → statement M
 write_spec =

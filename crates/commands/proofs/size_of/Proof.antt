@@ -30,12 +30,8 @@ returns-5 c = simp (eq-eqb _ _ c.if5.true, ne_eqb _ _ c.before.if4.false, ne_eqb
 
 returns-6 : tie.Need-returns-6
 unfolding size_of
-returns-6 c = simp (eq-eqb _ _ c.if6.true, ne_eqb _ _ c.before.if5.false, ne_eqb _ _ c.before.before.if4.false, ne_eqb _ _ c.before.before.before.if3.false, ne_eqb _ _ c.before.before.before.before.if2.false, ne_eqb _ _ c.before.before.before.before.before.if1.false)
-
-returns-7 : tie.Need-returns-7
-unfolding size_of
-returns-7 c = simp (ne_eqb _ _ c.if6.false, ne_eqb _ _ c.before.if5.false, ne_eqb _ _ c.before.before.if4.false, ne_eqb _ _ c.before.before.before.if3.false, ne_eqb _ _ c.before.before.before.before.if2.false, ne_eqb _ _ c.before.before.before.before.before.if1.false)
+returns-6 c = simp (ne_eqb _ _ c.if5.false, ne_eqb _ _ c.before.if4.false, ne_eqb _ _ c.before.before.if3.false, ne_eqb _ _ c.before.before.before.if2.false, ne_eqb _ _ c.before.before.before.before.if1.false)
 
 pub size-of-spec : {M : Type 1} → statement M
 size-of-spec =
-    tie.close (tie.spec returns returns-2 add-result returns-3 returns-4 returns-5 returns-6 returns-7)
+    tie.close (tie.spec returns returns-2 add-result returns-3 returns-4 returns-5 returns-6)

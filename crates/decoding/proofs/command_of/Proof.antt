@@ -2,7 +2,7 @@
 use borrow.Author.Rules.{rules}
 use native.Mathlib.Omega.{arith}
 use borrow.Author.Tests.{eq-eqb, ne_eqb}
-use Rattle.commands.specs.Laws.{two_operands, one_operand, last_operand}
+use Rattle.commands.specs.Laws.{two_operands, one_operand}
 use Rattle.commands.specs.Format.{command_of}
 use Rattle.decoding.proofs.command_of.Statement.{statement}
 use Rattle.decoding.proofs.command_of.Tie as tie
@@ -70,17 +70,7 @@ returns-4 c = simp (eq-eqb _ _ c.before.if4.true, ne_eqb _ _ c.before.before.if3
 
 returns-5 : tie.Need-returns-5
 unfolding command_of
-returns-5 c = simp (eq-eqb _ _ c.if5.true, ne_eqb _ _ c.before.if4.false, ne_eqb _ _ c.before.before.if3.false, ne_eqb _ _ c.before.before.before.if2.false, ne_eqb _ _ c.before.before.before.before.if1.false)
-
-add-number-8 : tie.Need-overflow-add-number-8
-add-number-8 c = search rules
-
-number-requires-8 : tie.Need-number-requires-8
-number-requires-8 c κs = omega (arith, last_operand c.before.before.before.before.before.before.before.requires c.before.before.before.before.if1.false c.before.before.before.if2.false c.before.before.if3.false c.before.if4.false c.if5.false)
-
-returns-6 : tie.Need-returns-6
-unfolding command_of
-returns-6 c = simp (ne_eqb _ _ c.before.if5.false, ne_eqb _ _ c.before.before.if4.false, ne_eqb _ _ c.before.before.before.if3.false, ne_eqb _ _ c.before.before.before.before.if2.false, ne_eqb _ _ c.before.before.before.before.before.if1.false, c.number8.ensures)
+returns-5 c = simp (ne_eqb _ _ c.if4.false, ne_eqb _ _ c.before.if3.false, ne_eqb _ _ c.before.before.if2.false, ne_eqb _ _ c.before.before.before.if1.false)
 
 pub command-of-spec : {M : Type 1} → statement M
 command-of-spec =
@@ -105,7 +95,4 @@ command-of-spec =
     add-number-7
     number-requires-7
     returns-4
-    returns-5
-    add-number-8
-    number-requires-8
-    returns-6)
+    returns-5)

@@ -5,10 +5,10 @@ use Rattle.history_comparing.proofs.rows.Statement.{statement}
 use Rattle.history_comparing.proofs.rows.Tie as tie
 
 abbrev invariant-loop : tie.invariant-loop
-invariant-loop size tree released node row places copies k₀ k = k ≤ 520
+invariant-loop size tree node row places copies k₀ k = k ≤ 520
 
 abbrev decreases-loop : tie.decreases-loop
-decreases-loop size tree released node row places copies k₀ k = 520 - k
+decreases-loop size tree node row places copies k₀ k = 520 - k
 
 loop-holds : tie.Need-loop-init invariant-loop decreases-loop
 loop-holds c = search rules

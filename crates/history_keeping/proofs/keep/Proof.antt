@@ -7,10 +7,10 @@ use Rattle.history_keeping.proofs.keep.Statement.{statement}
 use Rattle.history_keeping.proofs.keep.Tie as tie
 
 abbrev invariant-loop : tie.invariant-loop
-invariant-loop kept₀ released node row places n i₀ kept i = (i ≤ n) × (length kept ≡ length kept₀)
+invariant-loop kept₀ node row places n i₀ kept i = (i ≤ n) × (length kept ≡ length kept₀)
 
 abbrev decreases-loop : tie.decreases-loop
-decreases-loop kept₀ released node row places n i₀ kept i = n - i
+decreases-loop kept₀ node row places n i₀ kept i = n - i
 
 length-requires : tie.Need-length-requires invariant-loop decreases-loop
 length-requires c κs = search rules

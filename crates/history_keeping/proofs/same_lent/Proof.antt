@@ -5,10 +5,10 @@ use Rattle.history_keeping.proofs.same_lent.Statement.{statement}
 use Rattle.history_keeping.proofs.same_lent.Tie as tie
 
 abbrev invariant-loop : tie.invariant-loop
-invariant-loop kept released node row places but n i₀ i = i ≤ n
+invariant-loop kept node row places n i₀ i = i ≤ n
 
 abbrev decreases-loop : tie.decreases-loop
-decreases-loop kept released node row places but n i₀ i = n - i
+decreases-loop kept node row places n i₀ i = n - i
 
 length-requires : tie.Need-length-requires invariant-loop decreases-loop
 length-requires c κs = search rules

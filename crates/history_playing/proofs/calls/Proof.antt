@@ -7,11 +7,11 @@ use Rattle.history_playing.proofs.calls.Statement.{statement}
 use Rattle.history_playing.proofs.calls.Tie as tie
 
 abbrev invariant-loop : tie.invariant-loop
-invariant-loop plan node₀ row₀ places₀ copies₀ tally₀ tree₀ released₀ n i₀ node row places copies tally tree released i =
+invariant-loop plan node₀ row₀ places₀ copies₀ tally₀ tree₀ n i₀ node row places copies tally tree i =
     (i ≤ n) × (length node ≡ length node₀) × (length row ≡ length row₀) × (length places ≡ length places₀) × (length copies ≡ length copies₀) × (length tally ≡ length tally₀)
 
 abbrev decreases-loop : tie.decreases-loop
-decreases-loop plan node₀ row₀ places₀ copies₀ tally₀ tree₀ released₀ n i₀ node row places copies tally tree released i = n - i
+decreases-loop plan node₀ row₀ places₀ copies₀ tally₀ tree₀ n i₀ node row places copies tally tree i = n - i
 
 loop-holds : tie.Need-loop-init invariant-loop decreases-loop
 loop-holds c = search rules

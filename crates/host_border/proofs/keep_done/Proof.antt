@@ -1,4 +1,5 @@
 -- `host_border::keep_done` meets its contract. Assumes nothing.
+use mathlib.Core.Path.{refl}
 use borrow.Author.Tests.{eq-eqb, ne_eqb}
 use borrow.Author.Rules.{rules}
 use Rattle.host_border.proofs.keep_done.Statement.{statement}

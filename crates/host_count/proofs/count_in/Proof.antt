@@ -13,9 +13,6 @@ size-requires c κs = search rules
 load-requires : tie.Need-load-requires
 load-requires c κs = search rules
 
-load-flags-requires : tie.Need-load-flags-requires
-load-flags-requires c κs = search rules
-
 add-to : tie.Need-overflow-add-to
 add-to c = search rules
 
@@ -35,12 +32,11 @@ same_length : tie.Need-same-length
 same_length c = search rules
 
 returns : tie.Need-returns
-returns c = let g = c.before.before.before.before in
-    let l = g.before.before.before in
+returns c = let l = c.before.before.before.before.before in
     let z = l.before.before in
     let s = z.before.before.before in
     let y = s.requires in
-    count_host y.fits z.size.ensures l.load.ensures g.load-flags.ensures c.count.ensures (nodes_part s.args.records.now {n = length l.load.new.1.0} (omega (arith, y.rows)))
+    count_host y.fits z.size.ensures l.load.ensures c.count.ensures (nodes_part s.args.records.now {n = length l.load.new.1.0} (omega (arith, y.rows)))
 
 pub count-in-spec : {M : Type 1} → statement M
 count-in-spec =
@@ -48,7 +44,6 @@ count-in-spec =
     (tie.spec
     size-requires
     load-requires
-    load-flags-requires
     add-to
     sub-count
     part-count-start

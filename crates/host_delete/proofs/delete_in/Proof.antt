@@ -1,10 +1,10 @@
 -- `host_delete::delete_in` meets its contract. Assumes nothing.
-use Prim.Native.Nat.{ℕ, ◌<◌}
-use mathlib.Core.Path.{◌≡◌, sym, ◌∙◌, ap}
+use Prim.Native.Nat.{ℕ, ◌+◌, ◌≤◌, ◌<◌}
+use mathlib.Core.Path.{◌≡◌, ap}
 use native.Mathlib.Omega.{arith}
 use lib.ListN.{length}
 use Rattle.basics.specs.Decide.{at}
-use Rattle.layout.specs.Layout.{entries, size_at}
+use Rattle.layout.specs.Layout.{table_at, entries, size_at}
 use Rattle.layout.specs.Laws.{nodes_part}
 use Rattle.layout.specs.Update.{nodes_laid_anew, nodes_lent}
 use Rattle.host_delete.specs.Laws.{delete_host}
@@ -17,9 +17,6 @@ size-requires c κs = search rules
 
 load-requires : tie.Need-load-requires
 load-requires c κs = search rules
-
-load-flags-requires : tie.Need-load-flags-requires
-load-flags-requires c κs = search rules
 
 add-to : tie.Need-overflow-add-to
 add-to c = search rules
@@ -41,23 +38,19 @@ low : (c : tie.After-slice-known) → (i : ℕ) → at c.before.args.records.now
 low c i = omega (arith, c.slice-known.given i)
 
 -- the nodes came back as many as they were
-long : (c : tie.After-slice-known4) → (let d = c.before.before in length d.delete.new.1.1.1.0 ≡ entries (size_at d.before.before.before.before.before.before.before.before.before.before.before.before.before.before.before.args.records.now))
-long c = omega (arith, c.before.before.before.before.before.before.before.before.before.before.before.before.before.before.before.before.before.requires.rows)
-
--- and so did the rows
-rows_long : (c : tie.After-slice-known5) → (let d = c.before.before.before.before in length d.delete.new.1.1.1.1.0 ≡ entries (size_at d.before.before.before.before.before.before.before.before.before.before.before.before.before.before.before.args.records.now))
-rows_long c = omega (arith, c.before.before.before.before.before.before.before.before.before.before.before.before.before.before.before.before.before.before.before.requires.rows)
+long : (c : tie.After-slice-known4) → (let d = c.before.before in length d.delete.new.1.1.0 ≡ entries (size_at d.before.before.before.before.before.before.before.before.before.before.before.before.args.records.now))
+long c = omega (arith, c.before.before.before.before.before.before.before.before.before.before.before.before.before.before.requires.rows)
 
 keep-requires : tie.Need-keep-requires
 keep-requires c κs = let h = c.before.before.before.before.before in
     let d = h.before.before in
-    let l = d.before.before.before.before.before.before.before.before in
+    let l = d.before.before.before.before.before in
     let k = l.before.before.before.before.before.before in
     let y = k.before.requires in
     let m = long h in
-    let r = nodes_laid_anew k.before.args.records.now y.fits (low k) d.delete.new.1.1.1.0 m
-    (nodes_lent k.before.args.records.now d.delete.new.1.1.1.0 {k = length l.load.new.1.0} (omega (arith, m, y.rows)) (omega (arith, m, y.fits.long))) in
-    record { fits = r.fits; rows = rows_long c.before.before.before ∙ ap entries (sym r.size) }
+    let r = nodes_laid_anew k.before.args.records.now y.fits (low k) d.delete.new.1.1.0 m
+    (nodes_lent k.before.args.records.now d.delete.new.1.1.0 {k = length l.load.new.1.0} (omega (arith, m, y.rows)) (omega (arith, m, y.fits.long))) in
+    record { fits = r.fits; rows = omega (arith, y.rows, ap entries r.size) }
 
 same_length : tie.Need-same-length
 same_length c = search rules
@@ -69,16 +62,15 @@ returns : tie.Need-returns
 returns c = let p = c.before.before in
     let h = p.before.before.before.before.before.before in
     let d = h.before.before in
-    let g = d.before.before.before.before in
-    let l = g.before.before.before.before in
+    let l = d.before.before.before.before.before in
     let z = l.before.before.before in
     let k = z.before.before.before in
     let s = k.before in
     let y = s.requires in
     let m = long h in
-    let r = nodes_laid_anew s.args.records.now y.fits (low k) d.delete.new.1.1.1.0 m
-    (nodes_lent s.args.records.now d.delete.new.1.1.1.0 {k = length l.load.new.1.0} (omega (arith, m, y.rows)) (omega (arith, m, y.fits.long))) in
-    delete_host y.fits (low k) z.size.ensures l.load.ensures g.load-flags.ensures _ d.delete.ensures (nodes_part s.args.records.now {n = length l.load.new.1.0} (omega (arith, y.rows))) r p.keep.ensures
+    let r = nodes_laid_anew s.args.records.now y.fits (low k) d.delete.new.1.1.0 m
+    (nodes_lent s.args.records.now d.delete.new.1.1.0 {k = length l.load.new.1.0} (omega (arith, m, y.rows)) (omega (arith, m, y.fits.long))) in
+    delete_host y.fits (low k) z.size.ensures l.load.ensures _ d.delete.ensures (nodes_part s.args.records.now {n = length l.load.new.1.0} (omega (arith, y.rows))) r p.keep.ensures
 
 pub delete-in-spec : {M : Type 1} → statement M
 delete-in-spec =
@@ -86,7 +78,6 @@ delete-in-spec =
     (tie.spec
     size-requires
     load-requires
-    load-flags-requires
     add-to
     sub-delete
     part-delete-start

@@ -2,9 +2,9 @@
 use native.Mathlib.Omega.{arith}
 use lib.ListN.{length}
 use Rattle.records.specs.Records.{records_of}
-use Rattle.kept.specs.Kept.{kept}
+use Rattle.reads.specs.Sizes.{read_size}
 use Rattle.layout.specs.Laws.{nodes_part}
-use Rattle.host_read.specs.Laws.{kept_read_size, read_host}
+use Rattle.host_read.specs.Laws.{read_host}
 use borrow.Author.Rules.{rules}
 use Rattle.host_read.proofs.read_in.Statement.{statement}
 use Rattle.host_read.proofs.read_in.Tie as tie
@@ -14,9 +14,6 @@ size-requires c κs = search rules
 
 load-requires : tie.Need-load-requires
 load-requires c κs = search rules
-
-load-flags-requires : tie.Need-load-flags-requires
-load-flags-requires c κs = search rules
 
 add-to : tie.Need-overflow-add-to
 add-to c = search rules
@@ -34,7 +31,7 @@ read-requires : tie.Need-read-requires
 read-requires c κs = search rules
 
 copy-row-requires : tie.Need-copy-row-requires
-copy-row-requires c κs = λ e. kept_read_size (kept (records_of _ _ _ _) _) _ _ _ c.before.before.read.ensures.0 e
+copy-row-requires c κs = λ e. read_size (records_of _ _ _ _) _ _ _ c.before.before.read.ensures.0 e
 
 same_length : tie.Need-same-length
 same_length c = search rules
@@ -45,12 +42,11 @@ same-length-2 c = search rules
 returns : tie.Need-returns
 returns c = let q = c.before.before in
     let a = q.before.before.before in
-    let g = a.before.before.before.before.before.before in
-    let l = g.before.before.before in
+    let l = a.before.before.before.before.before.before.before in
     let z = l.before.before in
     let s = z.before.before.before.before.before in
     let y = s.requires in
-    read_host y.fits z.size.ensures l.load.ensures g.load-flags.ensures _ _ _ a.read.ensures.0 (nodes_part s.args.records.now {n = length l.load.new.1.0} (omega (arith, y.rows))) q.copy-row.ensures
+    read_host y.fits z.size.ensures l.load.ensures _ _ _ a.read.ensures.0 (nodes_part s.args.records.now {n = length l.load.new.1.0} (omega (arith, y.rows))) q.copy-row.ensures
 
 pub read-in-spec : {M : Type 1} → statement M
 read-in-spec =
@@ -58,7 +54,6 @@ read-in-spec =
     (tie.spec
     size-requires
     load-requires
-    load-flags-requires
     add-to
     sub_read
     part-read-start

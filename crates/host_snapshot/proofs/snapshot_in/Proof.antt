@@ -13,9 +13,6 @@ size-requires c κs = search rules
 load-requires : tie.Need-load-requires
 load-requires c κs = search rules
 
-load-flags-requires : tie.Need-load-flags-requires
-load-flags-requires c κs = search rules
-
 add-to : tie.Need-overflow-add-to
 add-to c = search rules
 
@@ -43,12 +40,11 @@ same-length-2 c = search rules
 returns : tie.Need-returns
 returns c = let k = c.before.before in
     let h = k.before.before.before in
-    let g = h.before.before.before.before.before in
-    let l = g.before.before.before.before in
+    let l = h.before.before.before.before.before.before in
     let z = l.before.before.before in
     let s = z.before.before.before.before in
     let y = s.requires in
-    snapshot_host y.fits z.size.ensures l.load.ensures g.load-flags.ensures _ _ h.snapshot.ensures (nodes_part s.args.records.now {n = length l.load.new.1.0} (omega (arith, y.rows))) k.keep-tree.ensures
+    snapshot_host y.fits z.size.ensures l.load.ensures _ _ h.snapshot.ensures (nodes_part s.args.records.now {n = length l.load.new.1.0} (omega (arith, y.rows))) k.keep-tree.ensures
 
 pub snapshot-in-spec : {M : Type 1} → statement M
 snapshot-in-spec =
@@ -56,7 +52,6 @@ snapshot-in-spec =
     (tie.spec
     size-requires
     load-requires
-    load-flags-requires
     add-to
     sub-snapshot
     part-snapshot-start

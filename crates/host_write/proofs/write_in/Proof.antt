@@ -18,9 +18,6 @@ size-requires c κs = search rules
 load-requires : tie.Need-load-requires
 load-requires c κs = search rules
 
-load-flags-requires : tie.Need-load-flags-requires
-load-flags-requires c κs = search rules
-
 add-to : tie.Need-overflow-add-to
 add-to c = search rules
 
@@ -41,25 +38,24 @@ low : (c : tie.After-slice-known) → (i : ℕ) → at c.before.args.records.now
 low c i = omega (arith, c.slice-known.given i)
 
 -- the nodes came back as many as they were
-long : (c : tie.After-slice-known5) → length c.before.before.write.new.1.1.1.0 ≡ entries (size_at c.before.before.before.before.before.before.before.before.before.before.before.before.before.before.before.before.before.before.before.before.args.records.now)
-long c = omega (arith, c.before.before.before.before.before.before.before.before.before.before.before.before.before.before.before.before.before.before.before.before.requires.rows)
+long : (c : tie.After-slice-known5) → length c.before.before.write.new.1.1.0 ≡ entries (size_at c.before.before.before.before.before.before.before.before.before.before.before.before.before.before.before.before.before.args.records.now)
+long c = omega (arith, c.before.before.before.before.before.before.before.before.before.before.before.before.before.before.before.before.before.requires.rows)
 
 -- and so did the rows
-rows_long : (c : tie.After-slice-known6) → length c.before.before.before.before.write.new.1.1.1.1.0 ≡ entries (size_at c.before.before.before.before.before.before.before.before.before.before.before.before.before.before.before.before.before.before.before.before.before.before.args.records.now)
-rows_long c = omega (arith, c.before.before.before.before.before.before.before.before.before.before.before.before.before.before.before.before.before.before.before.before.before.before.requires.rows)
+rows_long : (c : tie.After-slice-known6) → length c.before.before.before.before.write.new.1.1.1.0 ≡ entries (size_at c.before.before.before.before.before.before.before.before.before.before.before.before.before.before.before.before.before.before.before.args.records.now)
+rows_long c = omega (arith, c.before.before.before.before.before.before.before.before.before.before.before.before.before.before.before.before.before.before.before.requires.rows)
 
 keep-requires : tie.Need-keep-requires
 keep-requires c κs = let h = c.before.before.before.before.before.before.before in
     let d = h.before.before in
-    let g = d.before.before.before.before.before in
-    let l = g.before.before.before.before in
+    let l = d.before.before.before.before.before.before in
     let z = l.before.before.before in
     let k = z.before.before.before.before.before in
     let s = k.before in
     let y = s.requires in
     let m = long h in
-    let r = nodes_laid_anew s.args.records.now y.fits (low k) d.write.new.1.1.1.0 m
-    (nodes_lent s.args.records.now d.write.new.1.1.1.0 {k = length l.load.new.1.0} (omega (arith, m, y.rows)) (omega (arith, m, y.fits.long))) in
+    let r = nodes_laid_anew s.args.records.now y.fits (low k) d.write.new.1.1.0 m
+    (nodes_lent s.args.records.now d.write.new.1.1.0 {k = length l.load.new.1.0} (omega (arith, m, y.rows)) (omega (arith, m, y.fits.long))) in
     record { fits = r.fits; rows = rows_long c.before.before.before.before.before ∙ ap entries (sym r.size) }
 
 same_length : tie.Need-same-length
@@ -75,16 +71,15 @@ returns : tie.Need-returns
 returns c = let p = c.before.before in
     let h = p.before.before.before.before.before.before.before.before in
     let d = h.before.before in
-    let g = d.before.before.before.before.before in
-    let l = g.before.before.before.before in
+    let l = d.before.before.before.before.before.before in
     let z = l.before.before.before in
     let k = z.before.before.before.before.before in
     let s = k.before in
     let y = s.requires in
     let m = long h in
-    let r = nodes_laid_anew s.args.records.now y.fits (low k) d.write.new.1.1.1.0 m
-    (nodes_lent s.args.records.now d.write.new.1.1.1.0 {k = length l.load.new.1.0} (omega (arith, m, y.rows)) (omega (arith, m, y.fits.long))) in
-    write_host y.fits (low k) z.size.ensures l.load.ensures g.load-flags.ensures _ _ _ _ d.write.ensures (nodes_part s.args.records.now {n = length l.load.new.1.0} (omega (arith, y.rows))) r p.keep.ensures
+    let r = nodes_laid_anew s.args.records.now y.fits (low k) d.write.new.1.1.0 m
+    (nodes_lent s.args.records.now d.write.new.1.1.0 {k = length l.load.new.1.0} (omega (arith, m, y.rows)) (omega (arith, m, y.fits.long))) in
+    write_host y.fits (low k) z.size.ensures l.load.ensures _ _ _ _ d.write.ensures (nodes_part s.args.records.now {n = length l.load.new.1.0} (omega (arith, y.rows))) r p.keep.ensures
 
 pub write-in-spec : {M : Type 1} → statement M
 write-in-spec =
@@ -92,7 +87,6 @@ write-in-spec =
     (tie.spec
     size-requires
     load-requires
-    load-flags-requires
     add-to
     sub-write
     part-write-start

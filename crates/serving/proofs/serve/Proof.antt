@@ -66,9 +66,6 @@ enum-told-6 c = search rules
 enum-told-7 : tie.Need-enum-told-7
 enum-told-7 c = search rules
 
-enum-told-8 : tie.Need-enum-told-8
-enum-told-8 c = search rules
-
 same-length-5 : tie.Need-same-length-5
 same-length-5 c = search rules
 
@@ -120,9 +117,6 @@ returns-8 c = a_change _ c.enum-told6.given.1 refl c.before.before.before.change
 returns-9 : tie.Need-returns-9
 returns-9 c = a_change _ c.enum-told7.given.1 refl c.before.before.before.changes.ensures c.before.before.if1.false
 
-returns-10 : tie.Need-returns-10
-returns-10 c = a_change _ c.enum-told8.given.1 refl c.before.before.before.changes.ensures c.before.before.if1.false
-
 pub serve-spec : {M : Type 1} → statement M
 serve-spec =
     tie.close
@@ -147,7 +141,6 @@ serve-spec =
     enum-told-5
     enum-told-6
     enum-told-7
-    enum-told-8
     same-length-5
     same-length-6
     same-length-7
@@ -164,5 +157,4 @@ serve-spec =
     returns-6
     returns-7
     returns-8
-    returns-9
-    returns-10)
+    returns-9)

@@ -3,7 +3,6 @@ use borrow.Author.Rules.{rules}
 use mathlib.Core.Path.{refl}
 use native.Mathlib.Omega.{arith}
 use Rattle.records.specs.Records.{records_of}
-use Rattle.kept.specs.Kept.{kept}
 use Rattle.progress.specs.Laws.{answered}
 use Rattle.showing.specs.Laws.{read_refused, read_replied, read_most}
 use Rattle.showing.proofs.read.Statement.{statement}
@@ -33,12 +32,12 @@ returns c =
     let t = p.before.before in
     let b = t.before in
     let q = b.before in
-    answered c.on.ensures (read_refused (kept (records_of _ _ _ _) _) _ q.before.before.before.pair.ensures q.read.ensures.0 b.byte.ensures t.if1.true p.plain-line.ensures)
+    answered c.on.ensures (read_refused (records_of _ _ _ _) _ q.before.before.before.pair.ensures q.read.ensures.0 b.byte.ensures t.if1.true p.plain-line.ensures)
 
 row-line-requires : tie.Need-row-line-requires
 row-line-requires c κs =
     let q = c.before.before.before in
-    omega (arith, read_most (kept (records_of _ _ _ _) _) _ _ _ _ q.read.ensures.0, q.before.before.before.before.before.before.before.before.before.before.before.requires.fits)
+    omega (arith, read_most (records_of _ _ _ _) _ _ _ _ q.read.ensures.0, q.before.before.before.before.before.before.before.before.before.requires.fits)
 
 on-requires-2 : tie.Need-on-requires-2
 on-requires-2 c κs = search rules
@@ -52,7 +51,7 @@ returns-2 c =
     let t = p.before.before in
     let b = t.before in
     let q = b.before in
-    answered c.on2.ensures (read_replied (kept (records_of _ _ _ _) _) _ q.before.before.before.pair.ensures q.read.ensures.0 b.byte.ensures t.if1.false p.row_Line.ensures refl)
+    answered c.on2.ensures (read_replied (records_of _ _ _ _) _ q.before.before.before.pair.ensures q.read.ensures.0 b.byte.ensures t.if1.false p.row_Line.ensures refl)
 
 pub read_spec : {M : Type 1} → statement M
 read_spec =

@@ -23,7 +23,7 @@ use Rattle.streaming.specs.contracts.lines.Key.{name}
 use Rattle.streaming.proofs.lines.Statement.{statement}
 use Rattle.streaming.proofs.lines.Code as code
 
--- a `Progress`, whose sixth field is the test
+-- a `Progress`, whose fifth field is the test
 abbrev run : Carried
 run = record {
   type = G.the_row;
@@ -35,10 +35,10 @@ run = record {
   bound = λ r. tt;
   silent = λ r w. refl;
   going = λ r. r.going;
-  at = 5;
-  off = 680;
+  at = 4;
+  off = 552;
   spot = refl;
-  reads = λ t n b r e. look_part t n e (sub t 5 refl (whole t));
+  reads = λ t n b r e. look_part t n e (sub t 4 refl (whole t));
 }
 
 -- what a test says

@@ -129,19 +129,12 @@ fn timed_doomed<S: Store>((_, lent, tag): &Doomed) -> Repetition {
     timed_delete::<S>(lent, vec![*tag])
 }
 
-fn timed_release<S: Store>(lent: &Lent) -> Repetition {
-    let tags = lent.snapshots();
-    timed_changing(&lent.records, move |records, number| {
-        S::release(records, tags[number % tags.len()])
-    })
-}
-
 fn timed_count<S: Store>(lent: &Lent) -> Repetition {
     let records = lent.records.clone();
     timed(move |_| assert_eq!(S::count(black_box(&records)).0, 0))
 }
 
-pub const CALLS: [&str; 9] = [
+pub const CALLS: [&str; 8] = [
     "open",
     "snapshot",
     "read",
@@ -149,7 +142,6 @@ pub const CALLS: [&str; 9] = [
     "write shared",
     "write equal",
     "delete",
-    "release",
     "count",
 ];
 
@@ -164,29 +156,6 @@ fn timed_calls<S: Store>(stock: &Stock) -> Vec<Repetition> {
         timed_write::<S>(&stock.roomy, true),
         timed_write_equal::<S>(full),
         timed_delete::<S>(full, full.snapshots()),
-        timed_release::<S>(full),
-        timed_count::<S>(full),
-    ]
-}
-
-pub const BESIDE_RELEASED: [&str; 6] = [
-    "snapshot",
-    "write unshared",
-    "write shared",
-    "delete",
-    "release",
-    "count",
-];
-
-/// Calls at stores in which other versions are released, in the order of their names.
-fn timed_beside_released<S: Store>(stock: &Stock) -> Vec<Repetition> {
-    let full = &stock.full;
-    vec![
-        timed_snapshot::<S>(stock),
-        timed_write::<S>(full, false),
-        timed_write::<S>(&stock.roomy, true),
-        timed_delete::<S>(full, full.snapshots()),
-        timed_release::<S>(full),
         timed_count::<S>(full),
     ]
 }
@@ -235,7 +204,6 @@ fn timed_borders<S: Store>(stock: &Stock) -> Vec<Repetition> {
 pub struct Timed {
     pub name: &'static str,
     pub calls: fn(&Stock) -> Vec<Repetition>,
-    pub beside_released: fn(&Stock) -> Vec<Repetition>,
     pub borders: fn(&Stock) -> Vec<Repetition>,
     pub chain: fn(&Lent) -> Vec<Repetition>,
     pub slow: fn(&Lent) -> Vec<Repetition>,
@@ -248,7 +216,6 @@ impl Timed {
         Timed {
             name: S::NAME,
             calls: timed_calls::<S>,
-            beside_released: timed_beside_released::<S>,
             borders: timed_borders::<S>,
             chain: timed_chain::<S>,
             slow: timed_slow::<S>,

@@ -10,8 +10,7 @@ mod lmdb;
 mod stores;
 mod timing;
 
-use calls::{stores, timed_pass, Timed};
-use calls::{BESIDE_RELEASED, BORDER_KINDS, CALLS, CHAIN_CALLS, SLOW_CALLS};
+use calls::{stores, timed_pass, Timed, BORDER_KINDS, CALLS, CHAIN_CALLS, SLOW_CALLS};
 use rowstore_host::layout::Measures;
 use stores::{Border, Lent, Shape, Stock, FULLEST, GROWTH, LARGEST, MIDDLE, SMALL};
 use timing::{line, medians, Repetition, REPETITION, REPETITIONS};
@@ -66,15 +65,6 @@ fn print_shape(shape: Shape) {
     let stock = Stock::of(shape);
     print_calls(&stock.full, &CALLS, |store| (store.calls)(&stock));
     print_borders(&stock);
-}
-
-/// Calls at the largest store when every other snapshot is released.
-fn print_released() {
-    let stock = Stock::of(LARGEST).half_released();
-    println!("\nlargest, every other snapshot released; calls on the others");
-    print_times(&stock.full, &BESIDE_RELEASED, |store| {
-        (store.beside_released)(&stock)
-    });
 }
 
 fn print_chain() {
@@ -179,7 +169,6 @@ fn main() {
     println!("time per call: median of {REPETITIONS} repetitions of {REPETITION:?} or more");
     [SMALL, MIDDLE, LARGEST].into_iter().for_each(print_shape);
     print_shape(FULLEST);
-    print_released();
     print_chain();
     print_slow();
     print_deep_ghosts();

@@ -171,28 +171,8 @@ impl Lent {
         self.parsed().tags()
     }
 
-    /// The tags of the versions that are not released.
-    fn unreleased(&self) -> Vec<u16> {
-        let records = self.parsed();
-        let released = |&tag: &u16| records.node_of(tag).is_some_and(|n| records.is_released(n));
-        let tags = records.tags().into_iter();
-        tags.filter(|tag| !released(tag)).collect()
-    }
-
-    /// Those of them that are snapshots.
     pub fn snapshots(&self) -> Vec<u16> {
-        let mut tags = self.unreleased();
-        tags.retain(|&tag| tag != 0);
-        tags
-    }
-
-    /// The same store with every other snapshot released.
-    fn half_released(&self) -> Lent {
-        let mut lent = self.clone();
-        for tag in self.snapshots().into_iter().step_by(2) {
-            assert_eq!(Plain::release(&mut lent.records, tag), 0);
-        }
-        lent
+        self.tags().into_iter().filter(|&tag| tag != 0).collect()
     }
 
     pub fn rows(&self) -> usize {
@@ -223,10 +203,9 @@ impl Lent {
         bytes.copied().collect()
     }
 
-    /// Versions and rows drawn from those that are shared, or from those that are not; of versions that
-    /// are not released.
+    /// Versions and rows drawn from those that are shared, or from those that are not.
     pub fn targets(&self, shared: bool) -> Vec<(u16, usize)> {
-        let (tags, is_shared) = (self.unreleased(), self.is_shared());
+        let (tags, is_shared) = (self.tags(), self.is_shared());
         let mut dice = Dice::new(2);
         let mut drawn = (0..100_000).map(|_| (dice.pick(&tags), dice.below(self.rows())));
         let mut targets = Vec::new();
@@ -251,7 +230,7 @@ impl Lent {
             let rows = rows.collect();
             Border { tag, rows }
         };
-        let mut borders: Vec<Border> = self.unreleased().into_iter().map(border).collect();
+        let mut borders: Vec<Border> = self.tags().into_iter().map(border).collect();
         borders.sort_by_key(|border| Reverse(border.rows.len()));
         borders.retain(|border| !border.rows.is_empty());
         borders.truncate(BORDERS);
@@ -321,16 +300,6 @@ impl Stock {
             roomy: with_free(1),
             roomier: with_free(MAX_BORDER),
             open_to_more: Lent::grown(Shape { snapshots, ..shape }),
-        }
-    }
-
-    /// The same stores, each with every other snapshot released.
-    pub fn half_released(&self) -> Stock {
-        Stock {
-            full: self.full.half_released(),
-            roomy: self.roomy.half_released(),
-            roomier: self.roomier.half_released(),
-            open_to_more: self.open_to_more.half_released(),
         }
     }
 

@@ -1,2 +1,0 @@
-pub mod Releases
-pub mod Laws

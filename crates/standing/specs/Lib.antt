@@ -1,2 +1,0 @@
-pub mod Unmoved
-pub mod Standing

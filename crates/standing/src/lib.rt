@@ -1,1 +1,0 @@
-// After each call every version but the call's own stands at the node where it stood, in specs/. There is no code here.
