@@ -13,48 +13,33 @@
 SHELL := bash
 .SHELLFLAGS := -euo pipefail -c
 .DELETE_ON_ERROR:
-.PHONY: shelf program library example test host hosted bench inspect tour install uninstall clean help FORCE
-
-# A check holds up to 1.5 GB. rt waits for the slowest of its jobs before it starts the next ones, so it gets two more than there are processors, as
-# far as memory goes.
-export RT_JOBS ?= $(shell awk -v n="$$(nproc)" '/^MemAvailable:/ { m = int($$2 / 2097152); j = m < n + 2 ? m : n + 2; print j < 1 ? 1 : j }' /proc/meminfo)
-
-# A check writes up to 200 MB of small files for as long as it runs: into memory, where there is room and programs may run there.
-ifndef TMPDIR
-scratch := $(shell awk '$$2 == "/dev/shm" && $$4 !~ /noexec/ { print $$2 }' /proc/mounts | tail -n 1)
-room := $(if $(scratch),$(shell test -w $(scratch) && df --output=avail --block-size=1M $(scratch) | awk 'NR == 2 && $$1 > 4096'))
-ifneq ($(room),)
-export TMPDIR := $(scratch)
-endif
-endif
+.PHONY: shelf program library example test host tools hosted bench inspect tour install uninstall clean help FORCE
 
 archive := target/staticlib/librowstore.a
 # What is made where no file tells it by its time.
 made := target/made
 
-# All files of a crate and of those that it leans on, but edits; with the folders, so that a file that is gone is seen too.
-files_of = crates.txt $(shell find $(addprefix crates/,$(shell scripts/below $(1))) -name must-fail -prune -o -print)
+# All files that a crate and those that it leans on are proved and built from; with the folders, so that a file that is gone is seen too.
+parts_of = $(wildcard $(foreach crate,$(shell scripts/below $(1)),$(addprefix crates/$(crate)/,src specs proofs)))
+files_of = crates.txt $(shell find $(call parts_of,$(1)))
 
 shelf: program
 	@target/bin/shelf <crates/shelf/stdin
 
-program: $(made)/shelf
+program: target/bin/shelf
 
-tour: $(made)/tour
+tour: target/bin/tour
 	@target/bin/tour
 
-$(made)/shelf: $(call files_of,shelf)
-$(made)/tour: $(call files_of,tour)
-$(made)/shelf $(made)/tour: $(made)/kit
-	@scripts/prove check $(@F)
-	@touch $@
+target/bin/shelf: $(call files_of,shelf)
+target/bin/tour: $(call files_of,tour)
+target/bin/shelf target/bin/tour: $(made)/kit
+	@scripts/prove run $(@F)
 
 library: $(archive)
 
-# rt proves what lies below a library one crate after the other; a check of these takes several at a time.
 $(archive): $(made)/kit $(call files_of,rowstore)
-	@scripts/prove check $(shell sed -n 's/^rowstore: //p' crates.txt)
-	@scripts/prove staticlib rowstore
+	@scripts/prove lib rowstore
 
 # The kit's version; the file is written only if it is another one.
 $(made)/kit: FORCE
@@ -67,21 +52,17 @@ example: library
 	@gcc -std=c11 -Wall -Wextra -Werror -O2 -Iinclude example/host.c $(archive) -o target/example/host
 	@target/example/host
 
-# The host's tests run beside the must-fail edits, as soon as every crate is proved. What they say is shown after the prover's lines, and its verdict last.
 test:
-	@scripts/need rt $(host_tools)
-	@work=$$(mktemp -d); trap 'rm -rf "$$work"' EXIT; touch "$$work/prover"; \
-	until grep -q '^rt: must-fail ' "$$work/prover" || [[ -e $$work/ended ]]; do sleep 1; done && \
-		$(MAKE) --no-print-directory library hosted >"$$work/host" 2>&1 & \
-	proved=0; rt ci | tee "$$work/prover" || proved=$$?; touch "$$work/ended"; \
-	tested=0; wait $$! || tested=$$?; cat "$$work/host"; \
-	[[ $$tested == 0 ]] || exit 1; tail -n 1 "$$work/prover"; exit $$proved
+	@scripts/gate
 
 # The tests that call the static library or the program, from Rust and from C.
 host: library program
 	@$(MAKE) --no-print-directory hosted
 
 host_tools := cargo gcc g++ nm objdump size diff cmp
+tools:
+	@scripts/need rt $(host_tools)
+
 hosted:
 	@scripts/need $(host_tools)
 	@cd host && cargo test --features linked -- --nocapture
@@ -124,7 +105,7 @@ uninstall:
 	@printf 'removed %s\n' $(installed)
 
 clean:
-	rm -rf target host/target
+	rm -rf target host/target crates/*/out
 
 help:
 	@sed -n 's/^#: //p' $(MAKEFILE_LIST)

@@ -20,7 +20,7 @@ MADE = re.compile(r"^(calls|Need|invariant|decreases|returns|Goes|WpFn|over|off|
 
 # Where a definition and a lemma would fall together, or two definitions.
 BY_HAND = {it: it.replace("-", "_") + "_lem" for it in "answer-line border-verdict delete-verdict write-verdict empty-node in-measure on-records own-freed read-tests reads-from tag-place tags-at write-left put-at rows-of tree-of".split()}
-BY_HAND.update({"Host-ends": "HostCallEnds", "inPlace": "held_in_place", "toFree": "held_to_free", "mapAt": "map_indexed"})
+BY_HAND.update({"on-records": "on_store", "Host-ends": "HostCallEnds", "inPlace": "held_in_place", "toFree": "held_to_free", "mapAt": "map_indexed"})
 
 
 def below(folder, ends):

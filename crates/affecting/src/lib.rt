@@ -1,4 +1,6 @@
 // Which nodes' rows can lose their last reader when a version goes: its own, and those of the ghosts right above it. A living node further up reads all that it read there.
+#![tactic(auto)]
+
 ghost use Rattle.trees.specs.Trees.{tree_of, Snapshot};
 ghost use Rattle.trees.specs.Rules.{States, Linked};
 ghost use Rattle.affecting.specs.Affected.{Affected};

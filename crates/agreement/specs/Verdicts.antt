@@ -13,7 +13,7 @@ use Rattle.model.specs.Call.{Single, snapshot, read, write, delete, count, one}
 use Rattle.answers.specs.Answers.{places_full, row, counts, refused_of}
 use Rattle.model.specs.Model.{Model, tests, gives, accepted, verdict, answer}
 use Rattle.answers.specs.Tests.{Tests, or_else, refusal}
-use Rattle.answers.specs.Laws.{unless_same, refusal_same}
+use Rattle.answers.proofs.Laws.{unless_same, refusal_same}
 use Rattle.copies.specs.Copies.{Cell, alive, snapshots_alive, Live}
 use Rattle.copies.specs.Counting.{snapshots_tags}
 use Rattle.maps.specs.Keeping.{used_same, shared_same, sharers_same}

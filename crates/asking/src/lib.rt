@@ -1,4 +1,6 @@
 // Does another version read an entry? With a mark for each node and row that an entry names.
+#![tactic(auto)]
+
 ghost use Rattle.std.specs.Prelude.{◌<◌};
 ghost use Rattle.basics.specs.Decide.{Decides};
 ghost use Rattle.trees.specs.Trees.{tree_of};

@@ -1,4 +1,3 @@
 pub mod Decide
 pub mod Equal
 pub mod Count
-pub mod CountLaws

@@ -1,1 +1,2 @@
 // Definitions and laws on numbers and lists, in specs/. There is no code here.
+#![tactic(auto)]

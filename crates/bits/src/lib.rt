@@ -1,4 +1,6 @@
 // A set of numbers as bits, eight to a byte.
+#![tactic(auto)]
+
 ghost use Rattle.std.specs.Prelude.{◌≡◌, false, ◌*◌, ◌<◌, length};
 ghost use Rattle.bits.specs.Bits.{has, joined};
 

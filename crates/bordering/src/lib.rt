@@ -1,4 +1,6 @@
 // Writing a border: its tests in a row, then its rows in their order.
+#![tactic(auto)]
+
 ghost use Rattle.records.specs.Records.{records_of};
 ghost use Rattle.owning.specs.Owning.{held};
 ghost use Rattle.borders.specs.Bordering.{BorderEnds};

@@ -1,3 +1,1 @@
 pub mod Bordering
-pub mod BorderingLaws
-pub mod BorderingWays

@@ -7,7 +7,7 @@ use native.Mathlib.Omega.{arith}
 use borrow.Author.Tests.{eq-eqb, ne_eqb, eqb-true}
 use Rattle.basics.specs.Decide.{at, and_yes, not_yes}
 use Rattle.basics.specs.Count.{sum, one, count}
-use Rattle.basics.specs.CountLaws.{sum_cong, sum_mono, sum_add, sum_zero, sum_ones, sum_swap, one_yes, one_no, one_most, count_two, count_some, count_has, count_eqb}
+use Rattle.basics.proofs.CountLaws.{sum_cong, sum_mono, sum_add, sum_zero, sum_ones, sum_swap, one_yes, one_no, one_most, count_two, count_some, count_has, count_eqb}
 use Rattle.trees.specs.declared.Tree.{Tree}
 use Rattle.trees.specs.Trees.{InUse, Snapshot, up, Child, is_used, nodes_used, is_child, children, is_snapshot, snapshots}
 use Rattle.trees.specs.Rules.{States, Linked, Branching}

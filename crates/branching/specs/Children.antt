@@ -6,7 +6,7 @@ use Rattle.std.proofs.Math.Decide.{ℕ_discrete}
 use Rattle.std.proofs.lemmas.List.{get_or-replicate}
 use Rattle.basics.specs.Decide.{at}
 use Rattle.basics.specs.Count.{count}
-use Rattle.basics.specs.CountLaws.{count_none, count_no, count_yes, count_two, count_pair, count_one}
+use Rattle.basics.proofs.CountLaws.{count_none, count_no, count_yes, count_two, count_pair, count_one}
 use Rattle.faults.specs.Faults.{Below}
 use Rattle.trees.specs.declared.Tree.{Tree}
 use Rattle.trees.specs.Trees.{up, Child}

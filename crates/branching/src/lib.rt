@@ -1,4 +1,6 @@
 // Rule 5 of SPEC 4: node 0 has at most one child, and a ghost two or more.
+#![tactic(auto)]
+
 ghost use Rattle.std.specs.Prelude.{◌<◌, ◌≡◌, length};
 ghost use Rattle.basics.specs.Decide.{Decides, at};
 ghost use Rattle.trees.specs.Trees.{tree_of, up};

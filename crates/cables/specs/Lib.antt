@@ -1,4 +1,2 @@
 pub mod Cables
-pub mod Laws
-pub mod Back
 pub mod Worked

@@ -1,4 +1,6 @@
 // A row turned to cable order and back, or refused.
+#![tactic(auto)]
+
 ghost use Rattle.cables.specs.Cables.{to_cable, from_cable, Turns};
 ghost use Rattle.cabling.specs.Cabling.{way};
 

@@ -1,4 +1,6 @@
 // A command's call that changes the store, with its line: its number, the answer and a dash.
+#![tactic(auto)]
+
 ghost use Rattle.std.specs.Prelude.{◌+◌, ◌≤◌, length};
 ghost use Rattle.commands.specs.Format.{row_at};
 ghost use Rattle.model.specs.Call.{snapshot, write, delete, one};

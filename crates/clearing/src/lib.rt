@@ -1,4 +1,6 @@
 // Rule 7 of SPEC 4: every exception is read by some living version. Most are seen to be read at one look.
+#![tactic(auto)]
+
 ghost use Rattle.std.specs.Prelude.{◌<◌, length};
 ghost use Rattle.basics.specs.Decide.{Decides};
 ghost use Rattle.trees.specs.Trees.{tree_of, table_of};

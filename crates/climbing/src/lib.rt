@@ -1,4 +1,6 @@
 // Going up by the notes of a row: from any node, and without the table.
+#![tactic(auto)]
+
 ghost use Rattle.std.specs.Prelude.{◌≡◌, ◌≢◌, ◌+◌};
 ghost use Rattle.trees.specs.Trees.{tree_of};
 ghost use Rattle.tree.specs.Rules.{Climbs};

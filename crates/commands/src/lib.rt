@@ -1,10 +1,12 @@
 // Commands in a stream of bytes: a byte says the kind, and operands of two bytes follow, the high one first.
 //     1 snapshot: source tag, new tag    2 read: tag, row    3 write: tag, row, the row's bytes    4 delete: tag    5 count
+#![tactic(auto)]
+
 ghost use Rattle.std.specs.Prelude.{◌≡◌, ◌≤◌};
 ghost use Rattle.commands.specs.Format.{changes, size_of};
 
 // What stands at a position. A write's bytes follow its two operands in the stream.
-#[derive(Drop)]
+#[derive(Clone, Copy)]
 pub enum Command {
     Over,
     Unknown,
@@ -17,7 +19,7 @@ pub enum Command {
 }
 
 // A command, the position behind it, and the number of the refusal with which the stream ends there, else 0.
-#[derive(Drop)]
+#[derive(Clone, Copy)]
 pub struct Step {
     pub command: Command,
     pub next: usize,

@@ -1,4 +1,6 @@
 // Two rows of bytes, equal or not.
+#![tactic(auto)]
+
 ghost use Rattle.std.specs.Prelude.{◌≡◌};
 ghost use Rattle.basics.specs.Equal.{equal};
 

@@ -2,7 +2,8 @@
 use Rattle.std.specs.Prelude.{◌≡◌, refl, ◌≢◌, ◌↔◌, true, false, not, ◌&&◌, List}
 use Rattle.std.proofs.Common.{sym, ◌∙◌}
 use Rattle.std.proofs.Math.Path.{ap}
-use Rattle.std.proofs.Math.Logic.{Iff·symm, Iff·trans, by_cases}
+use mathlib.Core.Logic.Iff
+use Rattle.std.proofs.Math.Logic.{by_cases}
 use Rattle.std.proofs.Math.Bool.{Bool}
 use Rattle.std.proofs.lemmas.Bool.{false≢true}
 use Prim.Native.Nat.{ℕ, pred, ◌<◌}
@@ -20,10 +21,10 @@ use Rattle.copies.specs.Living.{alive_origin, alive_in, live_in}
 
 module _ (ts us : List ℕ) (h : (t : ℕ) → alive ts t ≡ alive us t) where
   same_living : (t : ℕ) → In t (living ts) ↔ In t (living us)
-  same_living t = Iff·trans (Iff·symm (alive_in ts t)) (rw (h t) (alive_in us t))
+  same_living t = Iff.trans (Iff.symm (alive_in ts t)) (rw (h t) (alive_in us t))
 
   same_cells : (n : ℕ) (c : Cell) → In c (cells n (living ts)) ↔ In c (cells n (living us))
-  same_cells n c = Iff·trans (Iff·symm (live_in n ts c)) (rw (h c.0) (live_in n us c))
+  same_cells n c = Iff.trans (Iff.symm (live_in n ts c)) (rw (h c.0) (live_in n us c))
 
   pub used_tags : (n : ℕ) (f : Cell → ℕ) → places_used n ts f ≡ places_used n us f
   unfolding places_used
@@ -39,8 +40,8 @@ module _ (ts us : List ℕ) (h : (t : ℕ) → alive ts t ≡ alive us t) where
 
   pub sharers_tags : (f : Cell → ℕ) (t r : ℕ) → sharers ts f t r ≡ sharers us f t r
   unfolding sharers
-  sharers_tags f t r = different_members (λ u. u) (only same (living ts)) (only same (living us)) (λ u. Iff·trans (only_in same (living ts) u)
-      (Iff·trans (λ x. ((same_living u).0 x.0, x.1), λ x. ((same_living u).1 x.0, x.1)) (Iff·symm (only_in same (living us) u))))
+  sharers_tags f t r = different_members (λ u. u) (only same (living ts)) (only same (living us)) (λ u. Iff.trans (only_in same (living ts) u)
+      (Iff.trans (λ x. ((same_living u).0 x.0, x.1), λ x. ((same_living u).1 x.0, x.1)) (Iff.symm (only_in same (living us) u))))
     where
       same : ℕ → Bool
       same u = eqb (f (u, r)) (f (t, r))

@@ -9,7 +9,7 @@ use Prim.Native.Nat.{ℕ, suc, ◌+◌, ◌<◌}
 use Rattle.std.proofs.Math.Decide.{ℕ_discrete}
 use Rattle.std.proofs.Math.Dec.{eqb}
 use Rattle.basics.specs.Count.{one, count}
-use Rattle.basics.specs.CountLaws.{sum_cong, sum_add, sum_zero, one_yes, one_no, count_two, count_has, count_pair, count_cong, count_eqb}
+use Rattle.basics.proofs.CountLaws.{sum_cong, sum_add, sum_zero, one_yes, one_no, count_two, count_has, count_pair, count_cong, count_eqb}
 use Rattle.basics.specs.Decide.{Decides, decides_true, holds}
 use Rattle.copies.specs.Copies.{any, different}
 use Rattle.copies.specs.Members.{In, test_iff, eqb_iff, any_yes, any_some, any_same, any_members}

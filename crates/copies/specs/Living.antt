@@ -1,6 +1,6 @@
 -- Who lives, after a snapshot and after a delete; and the rows of those who live, as a list. Assumes nothing.
 use Rattle.std.specs.Prelude.{◌≡◌, refl, ◌≢◌, ◌↔◌, ◌⊎◌, Bool, true, false, cond, ◌||◌, List, [], ◌∷◌, ℕ, zero, suc, ◌<◌, eqb}
-use Rattle.std.proofs.Common.{sym, ◌∙◌, ap, inl, inr, arith, eq-eqb, ne_eqb, eqb-true}
+use Rattle.std.proofs.Common.{sym, ◌∙◌, ap, subst, inl, inr, arith, eq-eqb, ne_eqb, eqb-true}
 use Rattle.std.proofs.Math.Logic.{⊎_map, by_cases}
 use Rattle.std.proofs.lemmas.Bool.{false≢true}
 use Rattle.std.proofs.Math.Decide.{ℕ_discrete}
@@ -61,7 +61,7 @@ alive_before tags t u h e = by_cases (ℕ_discrete u t)
 pub alive_in : (tags : List ℕ) (t : ℕ) → alive tags t ≡ true ↔ In t (living tags)
 unfolding alive
 alive_in tags t = (
-  λ e. let (u, i, x) = any_some (eqb t) (living tags) e in rw (eqb-true t u x) i,
+  λ e. let (u, i, x) = any_some (eqb t) (living tags) e in subst (λ v. In v (living tags)) (sym (eqb-true t u x)) i,
   λ i. any_yes (eqb t) (living tags) t i (eq-eqb t t refl),
 )
 

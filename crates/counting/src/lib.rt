@@ -1,4 +1,6 @@
 // The call that counts: places in use and snapshots alive. It changes nothing.
+#![tactic(auto)]
+
 ghost use Rattle.records.specs.Records.{records_of};
 ghost use Rattle.counting.specs.Counting.{CountEnds};
 
@@ -6,7 +8,7 @@ use measures::Size;
 use trees::Tree;
 
 // An answer, with places in use and snapshots alive.
-#[derive(Drop)]
+#[derive(Clone, Copy)]
 pub struct Counts {
     pub answer: u8,
     pub used: usize,

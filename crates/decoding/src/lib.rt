@@ -1,4 +1,6 @@
 // What stands in a stream at a position.
+#![tactic(auto)]
+
 ghost use Rattle.std.specs.Prelude.{◌≡◌, ◌≤◌};
 ghost use Rattle.basics.specs.Decide.{at};
 ghost use Rattle.commands.specs.Format.{command_of, step_at, Reading};

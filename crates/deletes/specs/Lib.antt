@@ -1,2 +1,1 @@
 pub mod Deleting
-pub mod Laws

@@ -1,4 +1,6 @@
 // Deleting a snapshot: the places that only it reads are freed, wherever their entries stand; its node goes, or stays as a ghost for its children.
+#![tactic(auto)]
+
 ghost use Rattle.std.specs.Prelude.{◌≡◌, length};
 ghost use Rattle.records.specs.Records.{records_of, table};
 ghost use Rattle.table.specs.Rules.{Marked, Blank};
@@ -9,7 +11,7 @@ use tree::Found;
 use trees::Tree;
 
 // An answer, and the tree of the records: as it was if refused.
-#[derive(Drop)]
+#[derive(Clone, Copy)]
 pub struct Removed {
     pub answer: u8,
     pub tree: Tree,

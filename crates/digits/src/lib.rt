@@ -1,4 +1,6 @@
 // Numbers in base ten and bytes in base sixteen, laid as text. Each function returns the position behind what it laid.
+#![tactic(auto)]
+
 ghost use Rattle.std.specs.Prelude.{◌≡◌, ◌+◌, ◌*◌, ◌/◌, ◌%◌, ◌≤◌, ◌<◌, length};
 ghost use Rattle.laying.specs.Laid.{Lays};
 ghost use Rattle.digits.specs.Digits.{digit, place, decimal, hex};

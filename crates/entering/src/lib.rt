@@ -1,4 +1,6 @@
 // Rule 6 of SPEC 4: the entries of the table, in one pass that leaves a mark for each node and row that an entry names.
+#![tactic(auto)]
+
 ghost use Rattle.std.specs.Prelude.{◌+◌, ◌<◌, length};
 ghost use Rattle.trees.specs.Trees.{tree_of, table_of};
 ghost use Rattle.trees.specs.Rules.{Excepting};

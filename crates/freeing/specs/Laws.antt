@@ -14,7 +14,7 @@ use Rattle.sharing.specs.Laws.{shared_decides}
 use Rattle.table.specs.Rules.{Judging, Meets}
 use Rattle.table.specs.Laws.{meets_reads, reads_meets}
 use Rattle.removal.specs.Removal.{lonely, Freed}
-use Rattle.removal.specs.FreeLonely.{tested, lonely_of, lonely_yes, lonely_taken}
+use Rattle.removal.proofs.FreeLonely.{tested, lonely_of, lonely_yes, lonely_taken}
 use Rattle.asking.specs.Asking.{MeetsAlone, Asking}
 use Rattle.affecting.specs.Affected.{Affected}
 

@@ -1,4 +1,6 @@
 // Freeing what only one version reads, entry by entry, with a mark for each node and row that an entry names.
+#![tactic(auto)]
+
 ghost use Rattle.std.specs.Prelude.{◌≡◌, true};
 ghost use Rattle.trees.specs.Trees.{tree_of, table_of, Snapshot};
 ghost use Rattle.trees.specs.Rules.{States};

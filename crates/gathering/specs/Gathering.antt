@@ -9,7 +9,7 @@ use Rattle.hooks.specs.Order.{hook_at}
 use Rattle.rowbits.specs.Bits.{bit_of, binary}
 use Rattle.rowbits.specs.Laws.{bit_two, binary_none, binary_more, binary_below, row_byte}
 use Rattle.cables.specs.Cables.{turned, to_cable}
-use Rattle.cables.specs.Laws.{turned_size}
+use Rattle.cables.proofs.Laws.{turned_size}
 
 -- the bits of byte j in cable order
 abbrev pub bits_of : List ℕ → ℕ → ℕ → ℕ

@@ -1,4 +1,6 @@
 // A row turned to cable order: each position gets the bit of its hook, by the table.
+#![tactic(auto)]
+
 ghost use Rattle.std.specs.Prelude.{◌≡◌, ◌<◌, length};
 ghost use Rattle.basics.specs.Decide.{at};
 ghost use Rattle.hooks.specs.Order.{Ordered};

@@ -1,4 +1,6 @@
 // The tree of a new snapshot: a new living node, between node 0 and its former child for the origin, under its source for any other.
+#![tactic(auto)]
+
 ghost use Rattle.std.specs.Prelude.{◌≡◌, ◌<◌};
 ghost use Rattle.trees.specs.Trees.{nodes_used};
 ghost use Rattle.growing.specs.Growing.{tree_at};

@@ -1,4 +1,6 @@
 // A guess at a living version that reads a ghost's own row. Beyond being a node it is free, and `table::meets` tests it.
+#![tactic(auto)]
+
 ghost use Rattle.std.specs.Prelude.{◌<◌, ◌≢◌};
 ghost use Rattle.trees.specs.Trees.{tree_of, InUse};
 ghost use Rattle.tree.specs.Rules.{Parents};
@@ -8,7 +10,7 @@ ghost use Rattle.table.specs.Rules.{MarkedRow, Nodes};
 use measures::Row;
 
 // The nodes' children: each node's first one, and the one after each child; 0 where there is none.
-#[derive(Drop)]
+#[derive(Clone, Copy)]
 pub struct Children {
     pub first: [u8; 128],
     pub after: [u8; 128],

@@ -1,4 +1,6 @@
 // The first half of rule 3 of SPEC 4: every node in use but node 0 has a parent in use.
+#![tactic(auto)]
+
 ghost use Rattle.std.specs.Prelude.{◌≢◌};
 ghost use Rattle.basics.specs.Decide.{Decides};
 ghost use Rattle.trees.specs.Trees.{tree_of, InUse, up};

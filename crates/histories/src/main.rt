@@ -1,6 +1,9 @@
 // Drawn histories: a store and a full copy of every version take the same calls, and every answer, row, count and sharing
 // of the two is compared. The crates whose names begin with history_ are this test's own.
+#![tactic(auto)]
+
 use history_plans::Plan;
+use std::io;
 
 // What does not fit in the full copy is not run.
 fn fits(size: measures::Size) -> bool {
@@ -11,46 +14,46 @@ fn fits(size: measures::Size) -> bool {
 }
 
 // The histories of a configuration, in memory that is not zero at first.
-fn lend(plan: Plan, tally: &mut [usize]) {
+fn lend(rt: &impl Print, plan: Plan, tally: &mut [usize]) -> io::Result<()> {
     let size = plan.size;
     let n = history_numbers::above(size.places, size.rows);
     let m = history_numbers::product(size.places, size.width);
     if !fits(size) {
-        return;
+        return Ok(());
     }
     if n > 1024 {
-        return;
+        return Ok(());
     }
     if m > 4096 {
-        return;
+        return Ok(());
     }
     let mut node = [255u8; 1024];
     let mut row = [255u16; 1024];
     let mut places = [255u8; 4096];
     history_seeding::all(
+        rt,
         plan,
         &mut node[0..n],
         &mut row[0..n],
         &mut places[0..m],
         tally,
-    );
+    )
 }
 
 // The histories of every configuration, with a line for each.
-fn configurations(tally: &mut [usize]) {
-    let mut k: usize = 0;
-    while k < 12 {
+fn configurations(rt: &impl Print, tally: &mut [usize]) -> io::Result<()> {
+    for k in 0..12 {
         let plan = history_plans::planned(k);
-        k += 1;
         history_tallying::clear(tally);
-        lend(plan, tally);
-        history_summing::show_line(plan, tally);
+        lend(rt, plan, tally)?;
+        history_summing::show_line(rt, plan, tally)?;
     }
+    Ok(())
 }
 
-fn main() {
+fn main(rt: HostRuntime) -> io::Result<()> {
     let mut tally = [0usize; 285];
-    configurations(&mut tally);
-    history_summing::show_refusals(&tally);
-    history_summing::show_end(&tally);
+    configurations(&rt, &mut tally)?;
+    history_summing::show_refusals(&rt, &tally)?;
+    history_summing::show_end(&rt, &tally)
 }

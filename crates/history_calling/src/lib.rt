@@ -1,10 +1,12 @@
 // A drawn call, made on the store.
+#![tactic(auto)]
+
 use history_plans::{BORDER, COUNT, Call, DELETE, SNAPSHOT, WRITE};
 use measures::{Row, Size};
 use trees::Tree;
 
 // What a call answered, how many rows a border did, and the tree that it left.
-#[derive(Drop)]
+#[derive(Clone, Copy)]
 pub struct Done {
     pub answer: u8,
     pub done: usize,

@@ -1,5 +1,7 @@
 // The store beside the full copy: answers, counts, rows, sharing, and what a refusal leaves. A comparison gives the
 // number of what differs, or 0.
+#![tactic(auto)]
+
 use history_plans::{COUNT, Call, READ};
 use measures::{Row, Size};
 use trees::Tree;

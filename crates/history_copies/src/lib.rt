@@ -1,5 +1,7 @@
 // The calls on the full copy: a store that keeps every version whole, written without a look at the reference model. A
 // row that is written with other bytes gets a new mark, so that rows with one mark are those that share.
+#![tactic(auto)]
+
 use history_numbers::{add, get, get8, put, sum};
 use history_plans::{Call, DELETE, SNAPSHOT, WRITE};
 use history_slots::{alive_at, mark_at, slot_of};
@@ -75,7 +77,7 @@ fn change(copies: &mut [usize], call: Call) {
 }
 
 // An answer, and how many rows a border did.
-#[derive(Drop)]
+#[derive(Clone, Copy)]
 pub struct Answered {
     pub answer: u8,
     pub done: usize,

@@ -1,4 +1,6 @@
 // The dice, and the calls that are drawn with them.
+#![tactic(auto)]
+
 use history_numbers::{above, get, product, sum};
 use history_plans::{BORDER, COUNT, Call, DELETE, Plan, READ, SNAPSHOT, WRITE};
 

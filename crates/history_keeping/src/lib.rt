@@ -1,4 +1,6 @@
 // The records and places as they are before a call, kept as one list of numbers, and compared after a refusal.
+#![tactic(auto)]
+
 use history_numbers::{above, get, get8, get16, sum};
 use trees::Tree;
 

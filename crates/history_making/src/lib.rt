@@ -1,11 +1,12 @@
 // A call on the store, and whether a refusal changed something.
+#![tactic(auto)]
 use history_comparing::unless;
 use history_plans::Call;
 use measures::Size;
 use trees::Tree;
 
 // The store's answer, how many rows a border did, the tree that the call left, and the number of what differs, or 0.
-#[derive(Drop)]
+#[derive(Clone, Copy)]
 pub struct Tried {
     pub answer: u8,
     pub done: usize,

@@ -1,5 +1,6 @@
 // Numbers in slices, reached through a test of the index, and sums and products that are always there. This and the
 // crates above it up to `histories` are a test's: they promise only to be safe and to end.
+#![tactic(auto)]
 
 // The number at an index; 0 past the end.
 pub fn get(a: &[usize], i: usize) -> usize {

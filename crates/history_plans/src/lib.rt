@@ -1,8 +1,10 @@
 // What the test runs: the configurations, and a call of a history as it is drawn.
+#![tactic(auto)]
+
 use measures::Size;
 
 // The measures, how many tags are drawn from, the snapshot calls among 16, the seeds, and the calls for each seed.
-#[derive(Drop)]
+#[derive(Clone, Copy)]
 pub struct Plan {
     pub size: Size,
     pub tags: usize,
@@ -25,7 +27,7 @@ pub const BORDER: u8 = 5;
 
 // A call, its kind one of the six: the version that it is made on, a new snapshot's tag, a row, a border's second row and the number
 // of its rows, the length and the bytes to be written, and what is to become of a write; and the dice as the draw left them.
-#[derive(Drop)]
+#[derive(Clone, Copy)]
 pub struct Call {
     pub kind: u8,
     pub tag: u16,

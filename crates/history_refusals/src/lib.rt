@@ -1,4 +1,6 @@
 // What the full copy answers: 0, or the refusal.
+#![tactic(auto)]
+
 use history_numbers::{product, sum};
 use history_plans::{BORDER, Call, DELETE, READ, SNAPSHOT, WRITE};
 use history_slots::{SLOTS, slot_of};

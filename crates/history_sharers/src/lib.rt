@@ -1,5 +1,7 @@
 // Who shares with whom: the place of each living version's row, found by a climb of the test's own, beside the marks of
 // the full copy.
+#![tactic(auto)]
+
 use history_numbers::{add, get, get8, get16, put, sum};
 use trees::Tree;
 

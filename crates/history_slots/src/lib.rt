@@ -1,5 +1,7 @@
 // The full copy, as it is read: every version whole, in a slot of 128 numbers (alive or not, tag, a mark for each row, the
 // bytes). There are 65 slots, slot 0 the origin's, of up to 8 rows of up to 8 bytes; the next mark stands behind them.
+#![tactic(auto)]
+
 use history_numbers::{get, get8, sum};
 
 pub const SLOTS: usize = 65;

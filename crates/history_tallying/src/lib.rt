@@ -1,4 +1,6 @@
 // The tally of the test: what is counted of a configuration and of the whole run, and where the run is.
+#![tactic(auto)]
+
 use history_numbers::{above, add, put, sum};
 use history_plans::{BORDER, Call, DELETE, SNAPSHOT, WRITE};
 use history_sharers::node_of;

@@ -1,26 +1,28 @@
 // Words and numbers on standard output, for the lines that the test writes.
-use history_numbers::get;
-use libc::STDOUT_FILENO;
-use measures::Size;
+#![tactic(auto)]
 
-pub fn number(n: usize) {
-    io::print_decimal(STDOUT_FILENO, n as u64);
+use history_numbers::get;
+use measures::Size;
+use std::io;
+
+pub fn number(rt: &impl Print, n: usize) -> io::Result<()> {
+    rt.print(n)
 }
 
-pub fn text(bytes: &[u8]) {
-    io::write_all(STDOUT_FILENO, bytes);
+pub fn text(rt: &impl Print, bytes: &[u8]) -> io::Result<()> {
+    rt.write_all(bytes)
 }
 
 // A number of the tally, with words before it.
-pub fn entry(words: &[u8], tally: &[usize], i: usize) {
-    text(words);
-    number(get(tally, i));
+pub fn entry(rt: &impl Print, words: &[u8], tally: &[usize], i: usize) -> io::Result<()> {
+    text(rt, words)?;
+    number(rt, get(tally, i))
 }
 
-pub fn show_size(size: Size) {
-    number(size.rows);
-    text(b" ");
-    number(size.width);
-    text(b" ");
-    number(size.places);
+pub fn show_size(rt: &impl Print, size: Size) -> io::Result<()> {
+    number(rt, size.rows)?;
+    text(rt, b" ")?;
+    number(rt, size.width)?;
+    text(rt, b" ")?;
+    number(rt, size.places)
 }

@@ -1,4 +1,6 @@
 // The order of the hooks on the cable, as a table.
+#![tactic(auto)]
+
 ghost use Rattle.std.specs.Prelude.{◌≡◌, ◌<◌};
 ghost use Rattle.hooks.specs.Order.{hook_at, Ordered};
 

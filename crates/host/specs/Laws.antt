@@ -6,7 +6,7 @@ use Rattle.measures.specs.declared.Size.{Size}
 use Rattle.trees.specs.declared.Tree.{Tree}
 use Rattle.records.specs.Records.{records_of}
 use Rattle.answers.specs.Answers.{Refusal, unsound, number}
-use Rattle.answers.specs.Laws.{number_some}
+use Rattle.answers.proofs.Laws.{number_some}
 use Rattle.soundness.specs.Judged.{Judged, Leaves}
 use Rattle.layout.specs.Layout.{entries, size_at, nodes_at, loaded, Fits}
 use Rattle.host.specs.Host.{Host, HostEnds, Ready}

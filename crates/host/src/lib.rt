@@ -1,4 +1,6 @@
 // What the calls of the C interface share, the records being bytes.
+#![tactic(auto)]
+
 ghost use Rattle.records.specs.Records.{records_of};
 ghost use Rattle.layout.specs.Layout.{size_at, nodes_at, rows_at, stored, Fits};
 ghost use Rattle.host.specs.Host.{Ready, Kept};

@@ -11,7 +11,7 @@ use Rattle.answers.specs.Answers.{unsound}
 use Rattle.answers.specs.InOrder.{Ended, stopped}
 use Rattle.owning.specs.Owning.{Held, held}
 use Rattle.borders.specs.Bordering.{Ends, BorderEnds}
-use Rattle.borders.specs.BorderingWays.{bordered_none}
+use Rattle.borders.proofs.BorderingWays.{bordered_none}
 use Rattle.layout.specs.Layout.{size_at, nodes_at, stored, loaded, Fits}
 use Rattle.layout.specs.Update.{Renoded, loaded_size, loaded_nodes}
 use Rattle.host.specs.Host.{Lent}

@@ -10,7 +10,7 @@ use Rattle.measures.specs.declared.Size.{Size}
 use Rattle.measures.specs.Measures.{Within}
 use Rattle.answers.specs.Answers.{bad_size, bad_length}
 use Rattle.answers.specs.Tests.{Tests, refusal, in_measure}
-use Rattle.answers.specs.Laws.{refusal_here, refusal_next, refusal_none, in_measure_lem, measure_in}
+use Rattle.answers.proofs.Laws.{refusal_here, refusal_next, refusal_none, in_measure_lem, measure_in}
 use Rattle.soundness.specs.Judged.{leaves_refused, leaves_done}
 use Rattle.laying.specs.Laid.{Lays, twos, pairs}
 use Rattle.laying.specs.Laws.{lays_then, lays_as, lays_part}

@@ -14,7 +14,7 @@ use Rattle.answers.specs.Tests.{refusal, unless, verdict_number}
 use Rattle.soundness.specs.Judged.{Leaves}
 use Rattle.reads.specs.Reads.{ReadEnds, read_answer, row_of_tag, sharers_of_tag}
 use Rattle.reads.specs.Reads as queries
-use Rattle.reads.specs.Sizes.{same_number, same_bytes, same_sharers}
+use Rattle.reads.proofs.Sizes.{same_number, same_bytes, same_sharers}
 use Rattle.layout.specs.Layout.{size_at, nodes_at, loaded, Fits}
 use Rattle.layout.specs.Update.{loaded_size}
 use Rattle.host_read.specs.Reads.{HostReads, read_tests, copy_number, Copied}

@@ -6,7 +6,7 @@ use Rattle.measures.specs.declared.Size.{Size}
 use Rattle.answers.specs.Answers.{Refusal, bad_length, Answer, refused_of}
 use Rattle.answers.specs.Tests.{refusal, unless}
 use Rattle.model.specs.Call.{Call, one}
-use Rattle.model.specs.Call as on_records_lem
+use Rattle.model.specs.Call as on_store
 use Rattle.model.specs.Model.{Model, gives, reply, next}
 
 pub data HostCall : Type 0 where
@@ -23,12 +23,12 @@ pub data HostCall : Type 0 where
 
 -- the call on records that it makes
 abbrev pub on_records : HostCall → Call
-on_records (snapshot source new) = one (on_records_lem.snapshot source new)
-on_records (read tag r room) = one (on_records_lem.read tag r)
-on_records (write tag r bs) = one (on_records_lem.write tag r bs)
-on_records (border tag rows bytes) = on_records_lem.border tag rows bytes
-on_records (delete tag) = one (on_records_lem.delete tag)
-on_records count = one on_records_lem.count
+on_records (snapshot source new) = one (on_store.snapshot source new)
+on_records (read tag r room) = one (on_store.read tag r)
+on_records (write tag r bs) = one (on_store.write tag r bs)
+on_records (border tag rows bytes) = on_store.border tag rows bytes
+on_records (delete tag) = one (on_store.delete tag)
+on_records count = one on_store.count
 
 -- the test of what is lent to be filled: as many bytes as a row has. It comes before the call's own
 abbrev pub room_verdict : Size → HostCall → Option Refusal

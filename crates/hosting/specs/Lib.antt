@@ -1,5 +1,2 @@
 pub mod Calls
 pub mod Called
-pub mod Guarantee
-pub mod Cases
-pub mod Untouched

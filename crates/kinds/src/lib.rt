@@ -1,4 +1,6 @@
 // Rule 2 of SPEC 4: what a node of each state has. Each part counts what is wrong in a loop that is never left early: so the compiler takes many nodes at once.
+#![tactic(auto)]
+
 ghost use Rattle.std.specs.Prelude.{◌≡◌, ◌≢◌};
 ghost use Rattle.basics.specs.Decide.{Decides};
 ghost use Rattle.faults.specs.Faults.{Below};

@@ -1,5 +1,7 @@
 // Bytes laid into lent ones from a position on, and 16-bit numbers as two bytes, the high one first.
 // What lays returns the position behind it.
+#![tactic(auto)]
+
 ghost use Rattle.std.specs.Prelude.{◌≡◌, [], ◌∷◌, ◌+◌, ◌*◌, ◌/◌, ◌%◌, ◌≤◌, ◌<◌, length, replicate};
 ghost use Rattle.laying.specs.Laid.{Lays, pairs, numbers, pair_at};
 ghost use Rattle.laying.specs.Laws.{Loading, Same, Stops};

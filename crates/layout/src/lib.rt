@@ -1,4 +1,6 @@
 // The records as bytes: where each part lies is drawn in specs/Layout.antt.
+#![tactic(auto)]
+
 ghost use Rattle.std.specs.Prelude.{◌≡◌, ◌≤◌, length};
 ghost use Rattle.basics.specs.Decide.{Decides};
 ghost use Rattle.measures.specs.Measures.{Within};

@@ -1,4 +1,6 @@
 // The tree lent by `&mut`: each call takes the record apart, and a function by value does the work.
+#![tactic(auto)]
+
 ghost use Rattle.std.specs.Prelude.{◌≡◌, ◌<◌};
 ghost use Rattle.edits.specs.Edits.{hung};
 ghost use Rattle.removal.specs.Removal.{emptied};
@@ -7,7 +9,7 @@ ghost use Rattle.lending.specs.Lending.{filled};
 use trees::Tree;
 
 // A node, and what it is to hold.
-#[derive(Drop)]
+#[derive(Clone, Copy)]
 pub struct Node {
     pub number: usize,
     pub state: u8,
@@ -16,14 +18,14 @@ pub struct Node {
 }
 
 // A node, and the one that it is to hang under.
-#[derive(Drop)]
+#[derive(Clone, Copy)]
 pub struct Link {
     pub child: usize,
     pub parent: usize,
 }
 
 // A node's number alone.
-#[derive(Drop)]
+#[derive(Clone, Copy)]
 pub struct Spot(pub usize);
 
 // A node's state, tag and parent are set.

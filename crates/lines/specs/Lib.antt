@@ -1,9 +1,6 @@
 pub mod Lines
 pub mod Turns
-pub mod TurnLaws
 pub mod Output
 pub mod Loop
 pub mod Streams
-pub mod StreamLaws
 pub mod Printed
-pub mod PrintLaws

@@ -1,4 +1,6 @@
 // Rule 3 of SPEC 4: every node in use but node 0 has a parent in use, and all reach node 0.
+#![tactic(auto)]
+
 ghost use Rattle.std.specs.Prelude.{◌≢◌};
 ghost use Rattle.basics.specs.Decide.{Decides, at};
 ghost use Rattle.trees.specs.Trees.{tree_of, up, Reaches};

@@ -1,4 +1,6 @@
 // The nodes in use, side by side, so that the rules of the tree go through these alone.
+#![tactic(auto)]
+
 ghost use Rattle.std.specs.Prelude.{◌≡◌, ◌+◌, ◌≤◌, length, take};
 ghost use Rattle.basics.specs.Decide.{Decides};
 ghost use Rattle.scanning.specs.Zero.{ZeroFrom};

@@ -1,4 +1,6 @@
 // The records, read from their bytes.
+#![tactic(auto)]
+
 ghost use Rattle.std.specs.Prelude.{◌≡◌, length, replicate};
 ghost use Rattle.records.specs.Records.{records_of};
 ghost use Rattle.laying.specs.Laid.{numbers};

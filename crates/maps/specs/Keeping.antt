@@ -1,7 +1,8 @@
 -- A map goes on mirroring copies: where it begins, by what no living row shows, by a snapshot and by a delete. Assumes nothing.
 use Rattle.std.specs.Prelude.{◌≡◌, refl, ◌≢◌, true, cond, List, [], ◌∷◌, ℕ, ◌<◌, eqb}
 use Rattle.std.proofs.Common.{sym, ◌∙◌, ne_eqb}
-use Rattle.std.proofs.Math.Logic.{by_cases, Iff·rfl}
+use mathlib.Core.Logic.Iff
+use Rattle.std.proofs.Math.Logic.{by_cases}
 use Rattle.std.proofs.Math.Decide.{ℕ_discrete}
 use Rattle.copies.specs.Copies.{Cell, Copies, alive, Live, shared, sharers, places_used, adopt, without, fresh, copied}
 use Rattle.copies.specs.Living.{alive_origin, alive_cons, alive_source, alive_gone, alive_stays, alive_before}
@@ -13,7 +14,7 @@ module _ {A : Type 0} (n : ℕ) where
   first_mirrors v = record {
     living = λ t. refl;
     content = λ c l. refl;
-    names = λ c d l k. Iff·rfl;
+    names = λ c d l k. Iff.rfl;
     rows = λ c d l k e. e;
     below = λ c l. l.1;
     home = λ r l. refl;
@@ -27,7 +28,7 @@ module _ {A : Type 0} (n : ℕ) where
   start_mirrors m p low rows home = record {
     living = λ t. refl;
     content = λ c l. refl;
-    names = λ a b l k. Iff·rfl;
+    names = λ a b l k. Iff.rfl;
     rows = rows;
     below = low;
     home = home;

@@ -1,4 +1,3 @@
 pub mod Map
 pub mod Updates
 pub mod Keeping
-pub mod Writing

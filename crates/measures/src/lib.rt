@@ -1,10 +1,12 @@
 // A store's measures, and the two units that must not be mixed: row numbers and place numbers.
+#![tactic(auto)]
+
 ghost use Rattle.std.specs.Prelude.{◌≡◌, ◌≤◌, ◌<◌};
 ghost use Rattle.basics.specs.Decide.{Decides};
 ghost use Rattle.measures.specs.Measures.{Within, begins_at};
 
 // L rows of B bytes, in P places.
-#[derive(Drop)]
+#[derive(Clone, Copy)]
 pub struct Size {
     pub rows: usize,
     pub width: usize,
@@ -12,11 +14,11 @@ pub struct Size {
 }
 
 // A row of a version, counted from 0.
-#[derive(Drop)]
+#[derive(Clone, Copy)]
 pub struct Row(pub usize);
 
 // A place of the lent buffer, counted from 0.
-#[derive(Drop)]
+#[derive(Clone, Copy)]
 pub struct Place(pub usize);
 
 // Is each measure within its limits?

@@ -1,4 +1,6 @@
 // Writing a shared row of a snapshot: to a free place.
+#![tactic(auto)]
+
 ghost use Rattle.std.specs.Prelude.{◌≡◌, ◌≢◌};
 ghost use Rattle.records.specs.Records.{records_of};
 ghost use Rattle.edits.specs.Edits.{FreeEntry};

@@ -1,4 +1,6 @@
 // For each ghost a living child, where it has one: if that child has no own row, it reads the ghost's.
+#![tactic(auto)]
+
 ghost use Rattle.std.specs.Prelude.{◌≢◌};
 ghost use Rattle.trees.specs.Trees.{tree_of, InUse};
 ghost use Rattle.tree.specs.Rules.{Parents};

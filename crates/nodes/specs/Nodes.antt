@@ -8,7 +8,7 @@ use native.Mathlib.Omega.{arith}
 use borrow.Author.Tests.{not-true, not-false, eqb-true}
 use Rattle.basics.specs.Decide.{at, not_yes, not_no}
 use Rattle.basics.specs.Count.{count, first}
-use Rattle.basics.specs.CountLaws.{count_none, count_no, count_yes, first_some, first_none, first_yes, first_no, first_more, first_start}
+use Rattle.basics.proofs.CountLaws.{count_none, count_no, count_yes, first_some, first_none, first_yes, first_no, first_more, first_start}
 use Rattle.faults.specs.Faults.{Below}
 use Rattle.trees.specs.declared.Tree.{Tree}
 use Rattle.trees.specs.Trees.{Child, is_used, nodes_used, is_child}

@@ -1,4 +1,6 @@
 // Nodes for a change of the tree: an empty one, a child, and the tree with one node changed.
+#![tactic(auto)]
+
 ghost use Rattle.std.specs.Prelude.{◌≡◌, ◌≢◌, ℕ, ◌<◌};
 ghost use Rattle.std.proofs.Math.Option.{some};
 ghost use Rattle.basics.specs.Decide.{Decides};

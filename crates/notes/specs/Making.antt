@@ -13,7 +13,7 @@ use Rattle.std.proofs.Math.Seq.{get_or-set_other}
 use borrow.Author.Tests.{eq-eqb, ne_eqb, lt-ltb, le-ltb}
 use Rattle.basics.specs.Decide.{at}
 use Rattle.basics.specs.Count.{first}
-use Rattle.basics.specs.CountLaws.{first_start, first_yes, first_no, first_more}
+use Rattle.basics.proofs.CountLaws.{first_start, first_yes, first_no, first_more}
 use Rattle.trees.specs.Trees.{Table}
 use Rattle.trees.specs.Reading.{owns, entry}
 use Rattle.reading.specs.Reads.{owns_yes, owns_of}

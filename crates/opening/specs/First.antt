@@ -5,7 +5,7 @@ use Rattle.std.proofs.Math.Logic.{by_cases}
 use Rattle.std.proofs.Math.Decide.{ℕ_discrete}
 use Rattle.std.proofs.lemmas.List.{length-replicate}
 use Rattle.basics.specs.Decide.{at, both, not_of}
-use Rattle.basics.specs.CountLaws.{count_one}
+use Rattle.basics.proofs.CountLaws.{count_one}
 use Rattle.measures.specs.declared.Size.{Size}
 use Rattle.measures.specs.Measures.{Within}
 use Rattle.records.specs.Records.{records_of}

@@ -13,7 +13,7 @@ use Rattle.measures.specs.Measures.{Within}
 use Rattle.trees.specs.declared.Tree.{Tree}
 use Rattle.answers.specs.Answers.{Refusal, bad_size, bad_length, number}
 use Rattle.answers.specs.Tests.{Tests, refusal, open_tests, in_measure}
-use Rattle.answers.specs.Laws.{refusal_here, refusal_next, refusal_none, in_measure_lem, measure_in}
+use Rattle.answers.proofs.Laws.{refusal_here, refusal_next, refusal_none, in_measure_lem, measure_in}
 use Rattle.opening.specs.Opening.{no_tree, first_tree, open_verdict, Opening}
 
 -- a list xs of which the numbers below i have been cleared

@@ -1,4 +1,6 @@
 // Opening a store: all that was lent becomes zero, and the tree is node 0 alone.
+#![tactic(auto)]
+
 ghost use Rattle.std.specs.Prelude.{◌≡◌, length, replicate};
 ghost use Rattle.opening.specs.Opening.{first_tree, no_tree, Opening};
 
@@ -6,7 +8,7 @@ use measures::Size;
 use trees::Tree;
 
 // The answer, and the tree of the store: node 0 alone, or no node at all where opening was refused.
-#[derive(Drop)]
+#[derive(Clone, Copy)]
 pub struct Opened {
     pub answer: u8,
     pub tree: Tree,

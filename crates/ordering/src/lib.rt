@@ -1,4 +1,6 @@
 // The nodes in use in an order: each comes after its parent. The order is guessed, and then tested.
+#![tactic(auto)]
+
 ghost use Rattle.std.specs.Prelude.{◌≡◌, true, false, ℕ, ◌≤◌, ◌<◌, length};
 ghost use Rattle.basics.specs.Decide.{Decides, at};
 ghost use Rattle.trees.specs.Trees.{tree_of};
@@ -7,7 +9,7 @@ ghost use Rattle.table.specs.Rules.{Nodes};
 ghost use Rattle.ordering.specs.Ordered.{Follows, Ordered, Noting};
 
 // Nodes side by side, the first ones of 128, and for each node the position behind its children.
-#[derive(Drop)]
+#[derive(Clone, Copy)]
 pub struct Queue {
     pub node: [u8; 128],
     pub end: [u8; 128],

@@ -1,4 +1,6 @@
 // A version's own row: the node that is to have it, and its entry in the table.
+#![tactic(auto)]
+
 ghost use Rattle.std.specs.Prelude.{◌≡◌, ℕ, ◌<◌, length, set};
 ghost use Rattle.trees.specs.Trees.{nodes_used, Child};
 ghost use Rattle.owning.specs.Owning.{parted_tree, parted_node};
@@ -8,7 +10,7 @@ use tree::Found;
 use trees::Tree;
 
 // A tree, and the node of it that is to have an own row.
-#[derive(Drop)]
+#[derive(Clone, Copy)]
 pub struct Stand {
     pub tree: Tree,
     pub node: usize,

@@ -1,4 +1,6 @@
 // The bytes of places: where a row lies, and a row written to a place. Each place's bytes are lent on as a part of the buffer.
+#![tactic(auto)]
+
 ghost use Rattle.std.specs.Prelude.{◌≡◌, [], length};
 ghost use Rattle.measures.specs.Measures.{begins_at, bytes_at};
 ghost use Rattle.placing.specs.Placing.{put_at, Inside, Lies};

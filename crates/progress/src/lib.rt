@@ -1,4 +1,6 @@
 // A run between two commands: how it goes on behind a call and its line, and how it ends. For crates/running.
+#![tactic(auto)]
+
 ghost use Rattle.std.specs.Prelude.{◌≡◌, ◌≤◌};
 ghost use Rattle.progress.specs.Replying.{onward, stopped, Room, Stopped};
 
@@ -6,7 +8,7 @@ use measures::Size;
 use trees::Tree;
 
 // A run between two commands: the store's size and tree, the end of the text so far, the next line's number, and whether it goes on.
-#[derive(Drop)]
+#[derive(Clone, Copy)]
 pub struct Progress {
     pub size: Size,
     pub tree: Tree,

@@ -1,4 +1,6 @@
 // The tree without a version: its node becomes a ghost, and a ghost that has too few children goes.
+#![tactic(auto)]
+
 ghost use Rattle.std.specs.Prelude.{◌≡◌, ◌<◌};
 ghost use Rattle.removal.specs.Removal.{ghosted, emptied, spliced, relabelled};
 ghost use Rattle.pruning.specs.Pruning.{pruned_tree, pruned_node, settled_tree, settled_node};
@@ -7,7 +9,7 @@ use tree::Found;
 use trees::Tree;
 
 // A tree, and the node of it that may have one child too few.
-#[derive(Drop)]
+#[derive(Clone, Copy)]
 pub struct Stand {
     pub tree: Tree,
     pub node: usize,

@@ -1,4 +1,6 @@
 // The call that reads a row of a version. It changes nothing.
+#![tactic(auto)]
+
 ghost use Rattle.records.specs.Records.{records_of};
 ghost use Rattle.reads.specs.Reads.{ReadEnds, ReadPart};
 

@@ -1,4 +1,6 @@
 // Is a node's own row read by one version alone? The nodes are passed in an order in which each comes after its parent, so that one pass tells who reads it.
+#![tactic(auto)]
+
 ghost use Rattle.std.specs.Prelude.{true, false, ◌≢◌, ◌⊎◌, ◌≡◌, ◌≤◌, ◌<◌};
 ghost use Rattle.basics.specs.Decide.{Decides};
 ghost use Rattle.trees.specs.Trees.{tree_of};

@@ -1,11 +1,13 @@
 // A reader holds a stream and the position of its next command. Its functions take it apart and are walked by hand, in proofs/.
+#![tactic(auto)]
+
 ghost use Rattle.std.specs.Prelude.{◌≡◌, ◌≤◌};
 ghost use Rattle.commands.specs.Format.{step_at};
 
 use commands::Step;
 
 // A stream, and the position of its next command.
-#[derive(Drop)]
+#[derive(Clone, Copy)]
 pub struct Reader<'a> {
     pub stream: &'a [u8],
     pub at: usize,

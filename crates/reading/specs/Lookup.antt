@@ -2,7 +2,7 @@
 use Rattle.std.specs.Prelude.{◌≡◌, ◌≢◌, ℕ, ◌+◌, ◌≤◌, length}
 use Rattle.basics.specs.Decide.{at, not_yes, not_no}
 use Rattle.basics.specs.Count.{count}
-use Rattle.basics.specs.CountLaws.{count_yes, count_no}
+use Rattle.basics.proofs.CountLaws.{count_yes, count_no}
 use Rattle.std.proofs.Common.{eq-eqb, ne_eqb}
 use Rattle.trees.specs.declared.Tree.{Tree}
 use Rattle.trees.specs.Trees.{Table, taken}

@@ -9,7 +9,7 @@ use Prim.Native.Nat.{ℕ, zero, suc, ◌+◌, ◌≤◌, ◌<◌}
 use Rattle.std.proofs.Math.Decide.{ℕ_discrete}
 use borrow.Author.Tests.{eq-eqb, ne_eqb, eqb-true}
 use Rattle.basics.specs.Decide.{at, and_yes, both}
-use Rattle.basics.specs.CountLaws.{first_some, first_none, first_only}
+use Rattle.basics.proofs.CountLaws.{first_some, first_none, first_only}
 use Rattle.trees.specs.declared.Tree.{Tree}
 use Rattle.trees.specs.Trees.{Table, InUse, up, ancestor}
 use Rattle.trees.specs.Reading.{Owns, Reads, origin, own, above, owns, entry, place_or, climb, place}

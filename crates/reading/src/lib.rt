@@ -1,4 +1,6 @@
 // The place of an entry, and the places in use.
+#![tactic(auto)]
+
 ghost use Rattle.std.specs.Prelude.{◌≡◌, ◌+◌, ◌≤◌, length};
 ghost use Rattle.trees.specs.Trees.{table_of, used};
 

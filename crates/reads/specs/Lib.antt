@@ -1,3 +1,1 @@
 pub mod Reads
-pub mod Laws
-pub mod Sizes

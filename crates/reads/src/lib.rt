@@ -1,1 +1,2 @@
 // What a read answers, in specs/. There is no code here.
+#![tactic(auto)]

@@ -1,4 +1,6 @@
 // The records, laid into their bytes.
+#![tactic(auto)]
+
 ghost use Rattle.std.specs.Prelude.{◌≡◌, [], ◌∷◌, ◌+◌, ◌*◌, ◌≤◌, length};
 ghost use Rattle.measures.specs.Measures.{Within};
 ghost use Rattle.records.specs.Records.{records_of};

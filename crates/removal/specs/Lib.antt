@@ -1,13 +1,1 @@
 pub mod Removal
-pub mod Lists
-pub mod FreeLonely
-pub mod Freed
-pub mod GhostTree
-pub mod Ghosted
-pub mod Below
-pub mod PruneTree
-pub mod PruneReads
-pub mod Pruned
-pub mod SpliceEntries
-pub mod Spliced
-pub mod FreedLists

@@ -9,8 +9,8 @@ use Rattle.trees.specs.Trees.{Snapshot, version}
 use Rattle.records.specs.Sound.{Sound}
 use Rattle.answers.specs.Answers.{Refusal, origin_tag, unknown_tag}
 use Rattle.answers.specs.Tests.{unless}
-use Rattle.answers.specs.Laws.{refusal_passed}
-use Rattle.edits.specs.Solve.{lives_node}
+use Rattle.answers.proofs.Laws.{refusal_passed}
+use Rattle.edits.proofs.Solve.{lives_node}
 use Rattle.deletes.specs.Deleting.{Left, left, delete_tests, delete_verdict, deleted}
 use Rattle.intact.specs.Intact.{Intact}
 use Rattle.intact.specs.Tags.{origin_tag as node_origin}

@@ -6,7 +6,7 @@ use Rattle.std.proofs.Math.Logic.{by_cases}
 use Rattle.std.proofs.Math.Option.{Option, none, some}
 use Rattle.std.proofs.Math.Decide.{ℕ_discrete}
 use Rattle.basics.specs.Decide.{at}
-use Rattle.basics.specs.CountLaws.{count_has}
+use Rattle.basics.proofs.CountLaws.{count_has}
 use Rattle.trees.specs.declared.Tree.{Tree}
 use Rattle.records.specs.Records.{Records, records_of, table, lives, tag_place}
 use Rattle.trees.specs.Trees.{Alive, Ghost, up, Child, is_child, children, version}
@@ -14,15 +14,16 @@ use Rattle.trees.specs.Reading.{place}
 use Rattle.records.specs.Sound.{Sound}
 use Rattle.tree.specs.Nodes.{child_yes, one_child as few_children, two_children}
 use Rattle.edits.specs.Edits.{with_tree, Whole}
-use Rattle.edits.specs.Solve.{lives_node, tag_place_lem, at_other}
-use Rattle.edits.specs.WriteReaders.{alive_used}
+use Rattle.edits.proofs.Solve.{lives_node, tag_place_lem, at_other}
+use Rattle.edits.proofs.WriteReaders.{alive_used}
 use Rattle.nodes.specs.Nodes.{first_child, child_some, child_none}
 use Rattle.removal.specs.Removal.{emptied, relabelled, Nearly}
-use Rattle.removal.specs.Lists.{relabelled_is}
-use Rattle.removal.specs.Below.{ghost_used, ghost_off, ghost_parent}
-use Rattle.removal.specs.PruneTree.{Forked}
-use Rattle.removal.specs.Pruned.{pruned_nearly, pruned_place, pruned_whole, pruned_version}
-use Rattle.removal.specs.Spliced.{nearly_sound, spliced_sound, spliced_place, spliced_whole, spliced_version}
+use Rattle.removal.proofs.Lists.{relabelled_is}
+use Rattle.removal.proofs.Below.{ghost_used, ghost_off, ghost_parent}
+use Rattle.removal.proofs.PruneTree.{Forked}
+use Rattle.removal.proofs.Pruned.{pruned_nearly, pruned_place, pruned_whole, pruned_version}
+use Rattle.removal.proofs.NearlySound.{nearly_sound}
+use Rattle.removal.proofs.Spliced.{spliced_sound, spliced_place, spliced_whole, spliced_version}
 use Rattle.pruning.specs.Pruning.{pruned_tree', pruned_node', pruned_tree, pruned_node, settled_tree, settled_node}
 use Rattle.pruning.specs.Laws.{no_ghost, not_one_child, one_child}
 

@@ -11,11 +11,11 @@ use Rattle.trees.specs.Trees.{Ghost, Snapshot, version}
 use Rattle.records.specs.Sound.{Sound}
 use Rattle.tree.specs.Nodes.{version_alive}
 use Rattle.edits.specs.Edits.{with_tree, Whole}
-use Rattle.edits.specs.Solve.{at_same, lives_node, version_lives, nobody_lives, tag_place_lem}
+use Rattle.edits.proofs.Solve.{at_same, lives_node, version_lives, nobody_lives, tag_place_lem}
 use Rattle.removal.specs.Removal.{Freed, Spare, ghosted, Deleted, freed_list}
-use Rattle.removal.specs.FreedLists.{freed_is}
-use Rattle.removal.specs.Freed.{freed_place, freed_sound, freed_spare}
-use Rattle.removal.specs.Ghosted.{ghosted_place, ghosted_whole, ghosted_nearly, ghosted_other, ghosted_gone, ghosted_none}
+use Rattle.removal.proofs.FreedLists.{freed_is}
+use Rattle.removal.proofs.Freed.{freed_place, freed_sound, freed_spare}
+use Rattle.removal.proofs.Ghosted.{ghosted_place, ghosted_whole, ghosted_nearly, ghosted_other, ghosted_gone, ghosted_none}
 use Rattle.pruning.specs.Pruning.{pruned_tree, pruned_node}
 use Rattle.deletes.specs.Deleting.{deleted_at}
 use Rattle.removed.specs.RemovedRecords.{Thinned, pruned, Settled, settled}

@@ -1,4 +1,6 @@
 // A row copied from one place to another, and a place whose row is saved in another before it is written.
+#![tactic(auto)]
+
 ghost use Rattle.std.specs.Prelude.{◌≡◌, length};
 ghost use Rattle.measures.specs.Measures.{bytes_at};
 ghost use Rattle.placing.specs.Placing.{put_at, Inside};

@@ -1,4 +1,6 @@
 // A row as bits: bit 0 is the highest of byte 0.
+#![tactic(auto)]
+
 ghost use Rattle.std.specs.Prelude.{◌≡◌, ◌-◌, ◌*◌, ◌%◌, ◌<◌, length};
 ghost use Rattle.rowbits.specs.Bits.{bit_of, put_bit};
 

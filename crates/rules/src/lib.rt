@@ -1,4 +1,6 @@
 // The tree's rules, SPEC 4.2 to 4.5, and the table's, SPEC 4.6 and 4.7, one after the other.
+#![tactic(auto)]
+
 ghost use Rattle.std.specs.Prelude.{◌≡◌, ◌≤◌, length};
 ghost use Rattle.basics.specs.Decide.{Decides};
 ghost use Rattle.trees.specs.Trees.{tree_of, table_of};

@@ -1,4 +1,5 @@
 // Runs a whole stream of commands on a store, and lays a line of text for each.
+#![tactic(auto)]
 ghost use Rattle.std.specs.Prelude.{◌≡◌, ◌+◌, ◌*◌, ◌≤◌};
 ghost use Rattle.records.specs.Records.{records_of};
 ghost use Rattle.progress.specs.Replying.{line_room};
@@ -17,7 +18,7 @@ fn room(width: usize, n: usize) -> usize
 }
 
 // A stream's answer, the tree that it left, and the end of the text. Nothing is changed by a refusal.
-#[derive(Drop)]
+#[derive(Clone, Copy)]
 pub struct Streamed {
     pub answer: u8,
     pub tree: Tree,

@@ -1,4 +1,6 @@
 // Writing a shared row of the origin: the old row is saved before its place is written.
+#![tactic(auto)]
+
 ghost use Rattle.std.specs.Prelude.{◌≡◌};
 ghost use Rattle.records.specs.Records.{records_of};
 ghost use Rattle.edits.specs.Edits.{FreeEntry};

@@ -1,4 +1,6 @@
 // Is a number among others, and are bytes all 0?
+#![tactic(auto)]
+
 ghost use Rattle.std.specs.Prelude.{◌≤◌, length};
 ghost use Rattle.basics.specs.Decide.{Decides};
 ghost use Rattle.faults.specs.Faults.{Below};

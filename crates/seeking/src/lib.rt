@@ -1,4 +1,6 @@
 // Rule 7 of SPEC 4 at one exception: is it read by some living version?
+#![tactic(auto)]
+
 ghost use Rattle.std.specs.Prelude.{◌<◌, length};
 ghost use Rattle.basics.specs.Decide.{Decides};
 ghost use Rattle.trees.specs.Trees.{tree_of, table_of};

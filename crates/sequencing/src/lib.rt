@@ -1,4 +1,6 @@
 // The rows of a border, written in their order until one is refused.
+#![tactic(auto)]
+
 ghost use Rattle.std.specs.Prelude.{◌≡◌, ◌*◌, ◌≤◌, ◌<◌, length, take, drop};
 ghost use Rattle.basics.specs.Decide.{at};
 ghost use Rattle.records.specs.Records.{records_of};
@@ -12,7 +14,7 @@ use trees::Tree;
 use unsharing::Written;
 
 // An answer, how many rows were done, and the tree afterwards.
-#[derive(Drop)]
+#[derive(Clone, Copy)]
 pub struct Bordered {
     pub answer: u8,
     pub done: usize,

@@ -13,7 +13,7 @@ use Rattle.std.proofs.Math.ListN.{length}
 use borrow.Author.Tests.{eq-eqb, ne_eqb, eqb-true, eqb-false}
 use Rattle.basics.specs.Decide.{Decides, at, and_yes, both, not_yes, not_of}
 use Rattle.basics.specs.Count.{sum, one, count, first}
-use Rattle.basics.specs.CountLaws.{sum_ones, one_yes, one_most, one_true, count_none, count_yes, count_no, count_most, count_two, count_pair, first_start, first_yes, first_no, first_more, first_some, first_none, first_nothing}
+use Rattle.basics.proofs.CountLaws.{sum_ones, one_yes, one_most, one_true, count_none, count_yes, count_no, count_most, count_two, count_pair, first_start, first_yes, first_no, first_more, first_some, first_none, first_nothing}
 use Rattle.trees.specs.declared.Tree.{Tree}
 use Rattle.trees.specs.Trees.{Table, Alive, taken, used}
 use Rattle.trees.specs.Reading.{place}

@@ -1,4 +1,6 @@
 // Where a row is read and by how many, and is there a free place?
+#![tactic(auto)]
+
 ghost use Rattle.std.specs.Prelude.{◌≡◌, ◌≤◌, length};
 ghost use Rattle.basics.specs.Decide.{Decides};
 ghost use Rattle.trees.specs.Trees.{tree_of, table_of};
@@ -11,7 +13,7 @@ use measures::{Place, Row};
 use tree::Found;
 
 // The place from which a version reads a row, and how many living versions read it from there.
-#[derive(Drop)]
+#[derive(Clone, Copy)]
 pub struct Looked {
     pub place: Place,
     pub sharers: usize,

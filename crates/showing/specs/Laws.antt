@@ -12,7 +12,7 @@ use Rattle.answers.specs.Answers.{Refusal, handed, row, refused_of}
 use Rattle.answers.specs.Tests.{refusal, unless}
 use Rattle.counting.specs.Counting.{counted, CountEnds}
 use Rattle.reads.specs.Reads.{ReadEnds, read_tests, read_answer, row_of_tag, sharers_of_tag}
-use Rattle.reads.specs.Sizes.{same_bytes, read_some}
+use Rattle.reads.proofs.Sizes.{same_bytes, read_some}
 use Rattle.theorem.specs.Trace.{read_ends, count_ends}
 use Rattle.text.specs.Text.{line, dash, pair_text, row_text, shown}
 use Rattle.laying.specs.Laid.{Lays}

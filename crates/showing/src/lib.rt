@@ -1,4 +1,6 @@
 // A command's call that asks, with its line: what was counted or read, or a dash if it was refused.
+#![tactic(auto)]
+
 ghost use Rattle.model.specs.Call.{read, count, one};
 ghost use Rattle.progress.specs.Replying.{line_room, Room, Answered, Answers};
 

@@ -1,4 +1,6 @@
 // Taking a snapshot: its tests, and the tree that it leaves. No place is touched.
+#![tactic(auto)]
+
 ghost use Rattle.records.specs.Records.{records_of};
 ghost use Rattle.takes.specs.Taking.{SnapshotEnds};
 
@@ -7,7 +9,7 @@ use tree::Found;
 use trees::Tree;
 
 // An answer, and the tree of the records: as it was if refused.
-#[derive(Drop)]
+#[derive(Clone, Copy)]
 pub struct Snapped {
     pub answer: u8,
     pub tree: Tree,

@@ -1,4 +1,6 @@
 // Are the records sound? The seven rules of SPEC 4, in their order, for any contents at all.
+#![tactic(auto)]
+
 ghost use Rattle.std.specs.Prelude.{length};
 ghost use Rattle.basics.specs.Decide.{Decides};
 ghost use Rattle.records.specs.Records.{records_of, table};

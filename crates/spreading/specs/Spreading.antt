@@ -7,12 +7,12 @@ use Rattle.std.proofs.lemmas.List.{length-replicate}
 use Rattle.basics.specs.Decide.{at}
 use Rattle.laying.specs.Laws.{zeros_at}
 use Rattle.hooks.specs.Order.{hook_at, position_of}
-use Rattle.hooks.specs.Laws.{hook_below, position_below, hook_of_position, position_of_hook}
+use Rattle.hooks.proofs.Laws.{hook_below, position_below, hook_of_position, position_of_hook}
 use Rattle.rowbits.specs.Bits.{bit_of, row_of, Bytes, put_bit}
 use Rattle.rowbits.specs.Laws.{bit_two, bit_none, row_size, row_bit, row_bytes, same_bits}
 use Rattle.rowbits.specs.Putting.{put_size, put_same, put_other, put_bytes}
 use Rattle.cables.specs.Cables.{from_cable}
-use Rattle.cables.specs.Laws.{turned_told}
+use Rattle.cables.proofs.Laws.{turned_told}
 
 abbrev pub or_none : Bool → ℕ → ℕ
 or_none true b = b

@@ -1,4 +1,6 @@
 // A row turned back from cable order: each hook gets the bit of its position, by the table.
+#![tactic(auto)]
+
 ghost use Rattle.std.specs.Prelude.{◌≡◌, ◌+◌, ◌*◌, ◌<◌, length, replicate};
 ghost use Rattle.hooks.specs.Order.{Ordered};
 ghost use Rattle.cables.specs.Cables.{from_cable};

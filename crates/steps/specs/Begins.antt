@@ -11,12 +11,12 @@ use Rattle.records.specs.Records.{Records, records_of}
 use Rattle.answers.specs.Answers.{bad_size, bad_length}
 use Rattle.model.specs.Model.{opened}
 use Rattle.answers.specs.Tests.{open_tests, in_measure, verdict_number}
-use Rattle.answers.specs.Laws.{refusal_passed, measure_in}
+use Rattle.answers.proofs.Laws.{refusal_passed, measure_in}
 use Rattle.edits.specs.Edits.{Whole}
 use Rattle.opening.specs.Opening.{first_tree, open_verdict, Opening}
 use Rattle.opening.specs.First.{first_sound}
 use Rattle.view.specs.View.{Store, started}
-use Rattle.view.specs.Starts.{start_agrees, open_agrees}
+use Rattle.view.proofs.Starts.{start_agrees, open_agrees}
 use Rattle.steps.specs.Calls.{Runs}
 
 -- what an accepted opening has passed

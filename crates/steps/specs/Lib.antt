@@ -6,4 +6,3 @@ pub mod Wrote
 pub mod Removed
 pub mod Calls
 pub mod Begins
-pub mod Bordered

@@ -19,7 +19,7 @@ use Rattle.copies.specs.Living.{alive_gone, alive_stays}
 use Rattle.edits.specs.Edits.{Whole}
 use Rattle.removal.specs.Removal.{Deleted}
 use Rattle.view.specs.View.{view, Store}
-use Rattle.view.specs.Viewed.{view_alive}
+use Rattle.view.proofs.Viewed.{view_alive}
 use Rattle.deletes.specs.Deleting.{Left, left, delete_tests, delete_verdict, deleted_at, deleted}
 use Rattle.intact.specs.Intact.{Intact}
 use Rattle.removed.specs.RemovedVersion.{removed}

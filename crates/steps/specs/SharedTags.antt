@@ -7,12 +7,12 @@ use Rattle.records.specs.Records.{Records, table}
 use Rattle.trees.specs.Trees.{version}
 use Rattle.records.specs.Sound.{Sound}
 use Rattle.tree.specs.Nodes.{version_alive}
-use Rattle.edits.specs.Solve.{lives_node, tag_place_lem}
+use Rattle.edits.proofs.Solve.{lives_node, tag_place_lem}
 use Rattle.copies.specs.Copies.{shared}
 use Rattle.copies.specs.Members.{test_iff}
 use Rattle.copies.specs.Counting.{shared_yes, shared_some}
 use Rattle.view.specs.View.{view}
-use Rattle.view.specs.Viewed.{view_alive}
+use Rattle.view.proofs.Viewed.{view_alive}
 use Rattle.sharing.specs.Sharing.{SharedAt, shared_at}
 use Rattle.sharing.specs.Laws.{shared_decides}
 use Rattle.wrote.specs.WroteRecords.{sharer}

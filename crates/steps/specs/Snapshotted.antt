@@ -19,9 +19,9 @@ use Rattle.agreement.specs.Agree.{Effect, map_verdict, map_answer, Step}
 use Rattle.copies.specs.Living.{alive_cons}
 use Rattle.edits.specs.Edits.{with_tree, Whole, Copied}
 use Rattle.view.specs.View.{view, Store}
-use Rattle.view.specs.Viewed.{view_alive, view_snapshots}
+use Rattle.view.proofs.Viewed.{view_alive, view_snapshots}
 use Rattle.takes.specs.Taking.{snapshot_tests, snapshot_verdict, snapshot_tree}
-use Rattle.takes.specs.Taken.{snapshot_allowed, snapshot_copied}
+use Rattle.takes.proofs.Taken.{snapshot_allowed, snapshot_copied}
 use Rattle.took.specs.Took.{snapshot_intact}
 
 -- the tree that the call leaves

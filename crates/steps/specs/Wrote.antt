@@ -14,11 +14,11 @@ use Rattle.answers.specs.Tests.{unless}
 use Rattle.maps.specs.Map.{Alike, Free, Write, in_place, to_free, saving, Save, untouched, touched}
 use Rattle.agreement.specs.Agree.{Effect, map_answer, Step}
 use Rattle.edits.specs.Edits.{Whole, FreeEntry}
-use Rattle.edits.specs.Solve.{lives_node, version_lives, tag_place_lem}
+use Rattle.edits.proofs.Solve.{lives_node, version_lives, tag_place_lem}
 use Rattle.nodes.specs.Nodes.{first_child}
 use Rattle.sharing.specs.Sharing.{shared_at}
 use Rattle.view.specs.View.{view, Store}
-use Rattle.view.specs.Viewed.{view_alive}
+use Rattle.view.proofs.Viewed.{view_alive}
 use Rattle.owning.specs.Owning.{Held, held, parted_tree, parted_node}
 use Rattle.moving.specs.Moving.{held_to_free}
 use Rattle.saving.specs.Saving.{saving as saving_held, saving_by}

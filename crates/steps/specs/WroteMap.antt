@@ -17,12 +17,12 @@ use Rattle.maps.specs.Map.{poke, kept, moved, divert, saved, Alike}
 use Rattle.copies.specs.Living.{alive_origin}
 use Rattle.maps.specs.Updates.{same_cell, put_at_lem, put_off, poke_at, poke_off, divert_origin, divert_renames}
 use Rattle.edits.specs.Edits.{Moved, Saved}
-use Rattle.edits.specs.Solve.{tag_place_lem}
+use Rattle.edits.proofs.Solve.{tag_place_lem}
 use Rattle.placing.specs.Placing.{put_at}
 use Rattle.placing.specs.Laws.{bytes_put_same, bytes_put_other}
 use Rattle.wrote.specs.WroteBytes.{place_within, home_inside, before_long, between_long}
 use Rattle.view.specs.View.{view, Store}
-use Rattle.view.specs.Viewed.{view_alive, view_low, view_rows, view_home}
+use Rattle.view.proofs.Viewed.{view_alive, view_low, view_rows, view_home}
 
 -- Bytes: a row put at one of n places changes the bytes of that place, and of no other
 

@@ -15,11 +15,11 @@ use Rattle.answers.specs.Answers.{bad_length, places_full}
 use Rattle.copies.specs.Copies.{shared, places_used}
 use Rattle.model.specs.Model.{tests}
 use Rattle.answers.specs.Tests.{refusal}
-use Rattle.answers.specs.Laws.{refusal_next, refusal_same}
+use Rattle.answers.proofs.Laws.{refusal_next, refusal_same}
 use Rattle.agreement.specs.Agree.{map_verdict}
-use Rattle.edits.specs.Solve.{lives_node, tag_place_lem}
+use Rattle.edits.proofs.Solve.{lives_node, tag_place_lem}
 use Rattle.view.specs.View.{view, Store}
-use Rattle.view.specs.Viewed.{view_alive, view_used}
+use Rattle.view.proofs.Viewed.{view_alive, view_used}
 use Rattle.writes.specs.Touching.{untouched_at, room_test}
 use Rattle.writes.specs.Writing.{write_tests, write_verdict}
 use Rattle.steps.specs.SharedTags.{shared_view}

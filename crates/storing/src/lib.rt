@@ -1,4 +1,6 @@
 // A row that may be written: in its own place if no other version shares it, else apart from theirs.
+#![tactic(auto)]
+
 ghost use Rattle.std.proofs.Math.Option.{some};
 ghost use Rattle.records.specs.Records.{records_of, table};
 ghost use Rattle.sharing.specs.Sharing.{Finds};

@@ -1,4 +1,5 @@
 // The loop over a stream of commands, from reader to reader.
+#![tactic(auto)]
 ghost use Rattle.lines.specs.Loop.{Begins, Through};
 
 use progress::Progress;

@@ -1,4 +1,6 @@
 // A mark for each node and row that an entry of the table names, and what going up past such marks meets.
+#![tactic(auto)]
+
 ghost use Rattle.std.specs.Prelude.{◌≡◌, ◌<◌};
 ghost use Rattle.basics.specs.Decide.{Decides};
 ghost use Rattle.trees.specs.Trees.{tree_of};

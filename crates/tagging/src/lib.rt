@@ -1,4 +1,6 @@
 // Rule 4 of SPEC 4: the snapshots have tags above 0, all different, and are at most 64.
+#![tactic(auto)]
+
 ghost use Rattle.std.specs.Prelude.{◌≡◌, ◌<◌, length};
 ghost use Rattle.basics.specs.Decide.{Decides, at};
 ghost use Rattle.trees.specs.Trees.{tree_of};

@@ -1,4 +1,6 @@
 // Lines of text, laid into lent bytes from a position on. Each function returns the position behind what it laid.
+#![tactic(auto)]
+
 ghost use Rattle.std.specs.Prelude.{◌+◌, ◌*◌, ◌≤◌, length};
 ghost use Rattle.text.specs.Text.{head, line, dash, pair_text, row_text};
 ghost use Rattle.laying.specs.Laid.{Lays};

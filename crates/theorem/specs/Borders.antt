@@ -11,7 +11,7 @@ use Rattle.measures.specs.declared.Size.{Size}
 use Rattle.measures.specs.Measures.{rows_with}
 use Rattle.answers.specs.Answers.{Refusal, bad_length, bad_row, unknown_tag, places_full, too_many_rows, number}
 use Rattle.answers.specs.Tests.{refusal, unless}
-use Rattle.answers.specs.Laws.{refusal_next, refusal_same, refusal_passed}
+use Rattle.answers.proofs.Laws.{refusal_next, refusal_same, refusal_passed}
 use Rattle.answers.specs.InOrder.{stopped, one_more, in_order, ended_with}
 use Rattle.copies.specs.Copies.{alive, shared, places_used}
 use Rattle.model.specs.Call.{write, border}

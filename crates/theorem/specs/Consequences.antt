@@ -18,7 +18,7 @@ use Rattle.answers.specs.Answers.{Refusal, bad_length, bad_row, unknown_tag, pla
 use Rattle.copies.specs.Copies.{Cell, alive, snapshots_alive, shared, sharers, places_used, adopt, renewed}
 use Rattle.model.specs.Model.{Model, tests, accepted, effect, verdict, answer, after, border_tests, bordered, reply, next, final}
 use Rattle.answers.specs.Tests.{Tests, or_else, refusal, unless, verdict_number}
-use Rattle.answers.specs.Laws.{refusal_next, refusal_none, number_some, verdict_none}
+use Rattle.answers.proofs.Laws.{refusal_next, refusal_none, number_some, verdict_none}
 use Rattle.answers.specs.InOrder.{stopped, in_order, ended_with}
 use Rattle.answers.specs.InOrderLaws.{order_refusal, order_keeps, order_all}
 use Rattle.copies.specs.Living.{alive_cons, alive_stays}

@@ -11,7 +11,7 @@ use Rattle.edits.specs.Edits.{with_tree, Whole, grown}
 use Rattle.nodes.specs.Nodes.{empty_node, first_child}
 use Rattle.growing.specs.Growing.{hung_by, grown_by, tree_at}
 use Rattle.takes.specs.Taking.{snapshot_verdict, tree_by, snapshot_tree}
-use Rattle.takes.specs.Taken.{snapshot_allowed, snapshot_copied}
+use Rattle.takes.proofs.Taken.{snapshot_allowed, snapshot_copied}
 use Rattle.intact.specs.Intact.{Intact}
 
 -- the tree's arrays stay whole

@@ -1,4 +1,6 @@
 // A row that is written as it is already is left alone; any other is stored.
+#![tactic(auto)]
+
 ghost use Rattle.std.specs.Prelude.{◌≡◌};
 ghost use Rattle.std.proofs.Math.Option.{some};
 ghost use Rattle.basics.specs.Equal.{equal};

@@ -1,39 +1,47 @@
 // The lines that the tour writes: what a count and a read of a store answer.
-use libc::STDOUT_FILENO;
+#![tactic(auto)]
+
 use measures::{Row, Size};
+use std::io;
 use trees::Tree;
 
 // Words, and a number behind them.
-pub fn show(words: &[u8], n: usize) {
-    io::write_all(STDOUT_FILENO, words);
-    io::print_decimal(STDOUT_FILENO, n as u64);
+pub fn show(rt: &impl Print, words: &[u8], n: usize) -> io::Result<()> {
+    rt.write_all(words)?;
+    rt.print(n)
 }
 
-pub fn end_line() {
-    io::write_all(STDOUT_FILENO, b"\n");
+pub fn end_line(rt: &impl Print) -> io::Result<()> {
+    rt.write_all(b"\n")
 }
 
-pub fn show_count<'a>(size: Size, tree: Tree, node: &'a [u8], row: &'a [u16]) {
+pub fn show_count<'a>(
+    rt: &impl Print,
+    size: Size,
+    tree: Tree,
+    node: &'a [u8],
+    row: &'a [u16],
+) -> io::Result<()> {
     let c = counting::count(size, tree, node, row);
-    show(b"count: answer ", widen::byte(c.answer));
-    show(b", places in use ", c.used);
-    show(b", snapshots alive ", c.snapshots);
-    end_line();
+    show(rt, b"count: answer ", widen::byte(c.answer))?;
+    show(rt, b", places in use ", c.used)?;
+    show(rt, b", snapshots alive ", c.snapshots)?;
+    end_line(rt)
 }
 
-fn show_byte(b: u8) {
-    io::print_hex(STDOUT_FILENO, b as u64, 2);
+fn show_byte(rt: &impl Print, b: u8) -> io::Result<()> {
+    print!(rt; "{b:02x}")
 }
 
-fn show_row(bytes: &[u8]) {
-    let mut i: usize = 0;
-    while i < bytes.len() {
-        show_byte(bytes[i]);
-        i += 1;
+fn show_row(rt: &impl Print, bytes: &[u8]) -> io::Result<()> {
+    for b in bytes {
+        show_byte(rt, *b)?;
     }
+    Ok(())
 }
 
 pub fn show_read<'a>(
+    rt: &impl Print,
     size: Size,
     tree: Tree,
     node: &'a [u8],
@@ -41,7 +49,7 @@ pub fn show_read<'a>(
     places: &'a [u8],
     tag: u16,
     r: usize,
-) {
+) -> io::Result<()> {
     let mut answer: u8 = 0;
     let mut sharers: usize = 0;
     let bytes = queries::read(
@@ -55,11 +63,11 @@ pub fn show_read<'a>(
         &mut answer,
         &mut sharers,
     );
-    show(b"read tag ", widen::pair(tag));
-    show(b" row ", r);
-    show(b": answer ", widen::byte(answer));
-    show(b", sharers ", sharers);
-    io::write_all(STDOUT_FILENO, b", bytes ");
-    show_row(bytes);
-    end_line();
+    show(rt, b"read tag ", widen::pair(tag))?;
+    show(rt, b" row ", r)?;
+    show(rt, b": answer ", widen::byte(answer))?;
+    show(rt, b", sharers ", sharers)?;
+    rt.write_all(b", bytes ")?;
+    show_row(rt, bytes)?;
+    end_line(rt)
 }

@@ -9,7 +9,7 @@ use Rattle.std.proofs.Math.Decide.{ℕ_discrete, dec_lt}
 use native.Mathlib.Omega.{arith}
 use Rattle.std.proofs.lemmas.Bool.{eqb-false}
 use Rattle.basics.specs.Count.{first}
-use Rattle.basics.specs.CountLaws.{first_some, first_none, distinct_below}
+use Rattle.basics.proofs.CountLaws.{first_some, first_none, distinct_below}
 use Rattle.trees.specs.Trees.{ancestor, Reaches}
 
 module _ (f : ℕ → ℕ) where

@@ -7,7 +7,7 @@ use Rattle.std.proofs.Math.Option.{none, some}
 use Rattle.std.proofs.Math.Decide.{ℕ_discrete}
 use Rattle.basics.specs.Decide.{at, and_no}
 use Rattle.basics.specs.Count.{count, first}
-use Rattle.basics.specs.CountLaws.{count_none, count_no, first_yes, first_no, first_more, first_nothing}
+use Rattle.basics.proofs.CountLaws.{count_none, count_no, first_yes, first_no, first_more, first_nothing}
 use Rattle.trees.specs.declared.Tree.{Tree}
 use Rattle.trees.specs.Trees.{InUse, up, ancestor, Reaches, is_snapshot, is_version, version}
 use Rattle.trees.specs.Rules.{Linked}

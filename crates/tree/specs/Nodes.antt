@@ -7,7 +7,7 @@ use Rattle.std.proofs.Common.{arith}
 use Rattle.std.proofs.Math.Dec.{eqb}
 use borrow.Author.Tests.{eq-eqb, ne_eqb, eqb-true}
 use Rattle.basics.specs.Decide.{at, and_yes, both, not_yes, not_of}
-use Rattle.basics.specs.CountLaws.{first_some, first_only, count_two, count_pair, count_one}
+use Rattle.basics.proofs.CountLaws.{first_some, first_only, count_two, count_pair, count_one}
 use Rattle.trees.specs.declared.Tree.{Tree}
 use Rattle.trees.specs.Trees.{Alive, Snapshot, up, Child, is_snapshot, is_used, is_child, children, is_version, version}
 use Rattle.trees.specs.Rules.{States}

@@ -1,9 +1,11 @@
 // The living version of a tag, and how many snapshots are alive.
+#![tactic(auto)]
+
 ghost use Rattle.std.specs.Prelude.{◌≡◌};
 ghost use Rattle.trees.specs.Trees.{tree_of, snapshots, version};
 ghost use Rattle.tree.specs.Rules.{found_of};
 
-#[derive(Drop)]
+#[derive(Clone, Copy)]
 pub enum Found {
     At(usize),
     Missing,

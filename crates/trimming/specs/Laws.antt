@@ -19,13 +19,13 @@ use Rattle.asking.specs.Asking.{MeetsAlone}
 use Rattle.asking.specs.Laws.{childless_alone}
 use Rattle.affecting.specs.Affected.{above_other}
 use Rattle.removal.specs.Removal.{lonely, freed_list, ghosted, emptied}
-use Rattle.removal.specs.Lists.{map_size, map_at, map_only}
-use Rattle.removal.specs.FreeLonely.{tested}
+use Rattle.removal.proofs.Lists.{map_size, map_at, map_only}
+use Rattle.removal.proofs.FreeLonely.{tested}
 use Rattle.freeing.specs.Laws.{alone_lonely, lonely_alone}
 use Rattle.pruning.specs.Pruning.{pruned_tree, pruned_node, settled_tree, settled_node}
 use Rattle.pruning.specs.Laws.{leaf_tree, leaf_node, no_ghost}
 use Rattle.deletes.specs.Deleting.{left, deleted_at, Deletable}
-use Rattle.deletes.specs.Laws.{used_node, freeable, left_same}
+use Rattle.deletes.proofs.Laws.{used_node, freeable, left_same}
 use Rattle.trimming.specs.Trimmed.{Loose, own_free, own_freed}
 
 -- The lists

@@ -1,4 +1,6 @@
 // A version without a child right below a living one: what it alone reads are its own rows, and its node can go at once.
+#![tactic(auto)]
+
 ghost use Rattle.std.specs.Prelude.{◌≡◌, length};
 ghost use Rattle.basics.specs.Decide.{Decides};
 ghost use Rattle.trees.specs.Trees.{tree_of, Snapshot};

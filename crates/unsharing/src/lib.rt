@@ -1,4 +1,6 @@
 // A row that others read goes apart from theirs: to a free place, or, of the origin, its old bytes do.
+#![tactic(auto)]
+
 ghost use Rattle.std.specs.Prelude.{◌≡◌, true};
 ghost use Rattle.std.proofs.Math.Option.{some};
 ghost use Rattle.records.specs.Records.{records_of, table};
@@ -13,7 +15,7 @@ use tree::Found;
 use trees::Tree;
 
 // An answer, and the tree of the records: as it was if refused.
-#[derive(Drop)]
+#[derive(Clone, Copy)]
 pub struct Written {
     pub answer: u8,
     pub tree: Tree,

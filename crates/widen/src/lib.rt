@@ -1,4 +1,6 @@
 // Small numbers as indices. A cast that stands alone asks for no proof of the byte that it casts.
+#![tactic(auto)]
+
 ghost use Rattle.std.specs.Prelude.{◌≡◌};
 
 // A byte.

@@ -1,9 +1,4 @@
 pub mod Unsharing
-pub mod UnsharingWays
 pub mod Storing
-pub mod StoringWays
-pub mod StoringLaws
 pub mod Touching
-pub mod TouchingLaws
 pub mod Writing
-pub mod WritingWays

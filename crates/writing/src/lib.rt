@@ -1,4 +1,6 @@
 // Writing a row: its tests in a row, the last by the room that is left.
+#![tactic(auto)]
+
 ghost use Rattle.std.specs.Prelude.{◌≡◌, ◌*◌, length};
 ghost use Rattle.records.specs.Records.{records_of};
 ghost use Rattle.records.specs.Sound.{Sound};

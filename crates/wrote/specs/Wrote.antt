@@ -25,7 +25,7 @@ use Rattle.saving.specs.Saving.{saving, saving_by}
 use Rattle.writes.specs.Unsharing.{shared_to}
 use Rattle.writes.specs.Storing.{held_in_place, written_at}
 use Rattle.writes.specs.Touching.{untouched_at}
-use Rattle.writes.specs.TouchingLaws.{untouched_left, touched_left, as_read}
+use Rattle.writes.proofs.TouchingLaws.{untouched_left, touched_left, as_read}
 use Rattle.writes.specs.Writing.{write_verdict, written_by, written}
 use Rattle.intact.specs.Intact.{Intact}
 use Rattle.wrote.specs.WroteBytes.{put_long, saved_long}

@@ -12,11 +12,11 @@ use borrow.Author.Tests.{eqb-true, leb-false, not-false}
 use Rattle.records.specs.Records.{Records, table, lives}
 use Rattle.trees.specs.Trees.{used, version}
 use Rattle.answers.specs.Answers.{bad_length, bad_row, unknown_tag, places_full}
-use Rattle.answers.specs.Laws.{refusal_passed}
-use Rattle.edits.specs.Solve.{lives_node}
+use Rattle.answers.proofs.Laws.{refusal_passed}
+use Rattle.edits.proofs.Solve.{lives_node}
 use Rattle.sharing.specs.Sharing.{shared_at}
 use Rattle.writes.specs.Touching.{untouched_at, room_test}
-use Rattle.writes.specs.TouchingLaws.{last_yes}
+use Rattle.writes.proofs.TouchingLaws.{last_yes}
 use Rattle.writes.specs.Writing.{write_tests, write_verdict}
 
 pub record Allowed (z : Records) (tag r : ℕ) (bs : List ℕ) (v : ℕ) : Type 0 where

@@ -17,8 +17,8 @@ use Rattle.bound.specs.Bound.{node_bound_child}
 use Rattle.reading.specs.Used.{used_read}
 use Rattle.reading.specs.Reads.{place_root}
 use Rattle.edits.specs.Edits.{with_tree, Whole, Parted, Moved, Saved, FreeEntry}
-use Rattle.edits.specs.Solve.{lives_node, version_node, version_lives, origin_version, tag_place_lem}
-use Rattle.edits.specs.Writes.{part_node, own_row, save_row}
+use Rattle.edits.proofs.Solve.{lives_node, version_node, version_lives, origin_version, tag_place_lem}
+use Rattle.edits.proofs.Writes.{part_node, own_row, save_row}
 use Rattle.nodes.specs.Nodes.{empty_node, first_child, empty_of, empty_found, child_some, child_none}
 use Rattle.sharing.specs.Sharing.{free_entry, SharedAt, shared_at}
 use Rattle.sharing.specs.Laws.{full_used, shared_decides}

@@ -2,7 +2,7 @@
 use borrow.Author.Rules.{rules}
 use mathlib.Core.Path.{refl}
 use native.Mathlib.Omega.{arith}
-use Rattle.lines.specs.TurnLaws.{ready_room, ready_write, turn_step, no_change}
+use Rattle.lines.proofs.TurnLaws.{ready_room, ready_write, turn_step, no_change}
 use Rattle.applying.proofs.change.Statement.{statement}
 use Rattle.applying.proofs.change.Tie as tie
 

@@ -2,7 +2,7 @@
 use native.Mathlib.Omega.{arith}
 use lib.ListN.{length}
 use Rattle.records.specs.Records.{records_of}
-use Rattle.reads.specs.Sizes.{read_size}
+use Rattle.reads.proofs.Sizes.{read_size}
 use Rattle.layout.specs.Laws.{nodes_part}
 use Rattle.host_read.specs.Laws.{read_host}
 use borrow.Author.Rules.{rules}

@@ -1,6 +1,6 @@
 -- `printing::print` meets its contract. Assumes nothing.
 use borrow.Author.Rules.{rules}
-use Rattle.lines.specs.PrintLaws.{printed_long, printed_short}
+use Rattle.lines.proofs.PrintLaws.{printed_long, printed_short}
 use Rattle.printing.proofs.print.Statement.{statement}
 use Rattle.printing.proofs.print.Tie as tie
 

@@ -1,7 +1,7 @@
 -- `printing::serve` meets its contract. Assumes nothing.
 use borrow.Author.Rules.{rules}
 use mathlib.Core.Path.{refl}
-use Rattle.lines.specs.PrintLaws.{program_serves}
+use Rattle.lines.proofs.PrintLaws.{program_serves}
 use Rattle.printing.proofs.serve.Statement.{statement}
 use Rattle.printing.proofs.serve.Tie as tie
 

@@ -6,7 +6,7 @@ use native.Mathlib.Omega.{arith}
 use Rattle.basics.specs.Decide.{passed, failed}
 use Rattle.records.specs.Records.{records_of}
 use Rattle.records.specs.Sound.{Sound}
-use Rattle.lines.specs.StreamLaws.{run_unsound, run_places, run_long, run_room, run_done}
+use Rattle.lines.proofs.StreamLaws.{run_unsound, run_places, run_long, run_room, run_done}
 use Rattle.running.proofs.run.Statement.{statement}
 use Rattle.running.proofs.run.Tie as tie
 
@@ -30,7 +30,7 @@ returns : tie.Need-returns
 returns c = run_unsound (records_of _ _ _ _) _ _ _ c.refused.ensures (failed c.before.before.sound.result c.before.before.sound.ensures c.before.if1.true) refl
 
 mul-if2 : tie.Need-overflow-mul-if2
-mul-if2 c = let w = (judged c.before).decreases.within in omega (arith, mul-le-mul w.places.1 w.width.1)
+mul-if2 c = let w = (judged c.before).measured.within in omega (arith, mul-le-mul w.places.1 w.width.1)
 
 refused-requires-2 : tie.Need-refused-requires-2
 refused-requires-2 c κs = search rules
@@ -57,7 +57,7 @@ returns-3 : tie.Need-returns-3
 returns-3 c = run_long (records_of _ _ _ _) _ _ _ c.refused3.ensures (judged c.before.before.before.before) c.before.before.if2.false c.before.if3.true
 
 room-requires : tie.Need-room-requires
-room-requires c κs = ((judged c.before.before.before).decreases.within.width.1, c.if3.false)
+room-requires c κs = ((judged c.before.before.before).measured.within.width.1, c.if3.false)
 
 refused-requires-4 : tie.Need-refused-requires-4
 refused-requires-4 c κs = search rules
@@ -72,7 +72,7 @@ returns-4 : tie.Need-returns-4
 returns-4 c = run_room (records_of _ _ _ _) _ _ _ c.refused4.ensures (judged c.before.before.before.before.before.before) c.before.before.before.before.if2.false c.before.before.before.if3.false (rw (sym c.before.before.room.ensures) c.before.if4.true)
 
 lines-requires : tie.Need-lines-requires
-lines-requires c κs = record { sized = refl; narrow = (judged c.before.before.before.before.before.before.before.before.before).decreases.within.width.1; start = (refl, refl, refl); few = c.before.before.before.before.before.before.if3.false; room = rw (sym c.before.before.before.before.before.room.ensures) c.before.before.before.before.if4.false }
+lines-requires c κs = record { sized = refl; narrow = (judged c.before.before.before.before.before.before.before.before.before).measured.within.width.1; start = (refl, refl, refl); few = c.before.before.before.before.before.before.if3.false; room = rw (sym c.before.before.before.before.before.room.ensures) c.before.before.before.before.if4.false }
 
 same-length-9 : tie.Need-same-length-9
 same-length-9 c = search rules

@@ -2,7 +2,7 @@
 use borrow.Author.Rules.{rules}
 use mathlib.Core.Path.{refl}
 use native.Mathlib.Omega.{arith}
-use Rattle.lines.specs.TurnLaws.{ready_room, turn_step, turn_stop, turn_over, a_change}
+use Rattle.lines.proofs.TurnLaws.{ready_room, turn_step, turn_stop, turn_over, a_change}
 use Rattle.serving.proofs.serve.Statement.{statement}
 use Rattle.serving.proofs.serve.Tie as tie
 

@@ -1,0 +1,2 @@
+pub mod BorderingLaws
+pub mod BorderingWays

@@ -1,0 +1,14 @@
+pub mod Enter
+pub mod EnterOwn
+pub mod EnterPlace
+pub mod EnterSave
+pub mod Grow
+pub mod GrowCopied
+pub mod Snapshots
+pub mod Solve
+pub mod Split
+pub mod SplitCount
+pub mod SplitPlace
+pub mod SplitRules
+pub mod WriteReaders
+pub mod Writes

@@ -1,0 +1,15 @@
+-- `laying::first_number` meets its contract. Assumes nothing.
+use native.Mathlib.Omega.{arith}
+use Rattle.laying.proofs.first_number.Goals as goal
+
+pub overflow_cast-high : goal.overflow_cast-high
+overflow_cast-high c = omega (arith, c.shared_slice_known-1.given 0)
+
+pub overflow_cast-low : goal.overflow_cast-low
+overflow_cast-low c = omega (arith, c.shared_slice_known-2-1.given 1)
+
+pub overflow_mul-result : goal.overflow_mul-result
+overflow_mul-result c = omega (arith, c.shared_slice_known-1.given 0)
+
+pub overflow_add-result : goal.overflow_add-result
+overflow_add-result c = omega (arith, c.shared_slice_known-1.given 0, c.shared_slice_known-2-1.given 1)

@@ -1,0 +1,4 @@
+pub mod GoingLaws
+pub mod PrintLaws
+pub mod StreamLaws
+pub mod TurnLaws

@@ -1,0 +1,13 @@
+pub mod Below
+pub mod FreeLonely
+pub mod Freed
+pub mod FreedLists
+pub mod GhostTree
+pub mod Ghosted
+pub mod Lists
+pub mod NearlySound
+pub mod PruneReads
+pub mod PruneTree
+pub mod Pruned
+pub mod SpliceEntries
+pub mod Spliced

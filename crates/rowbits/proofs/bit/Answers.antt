@@ -1,0 +1,7 @@
+-- `rowbits::bit` meets its contract. Assumes nothing.
+use Rattle.rowbits.specs.Bits.{bit_of}
+use Rattle.rowbits.proofs.bit.Goals as goal
+
+pub returns : goal.returns
+unfolding bit_of
+returns c = rw c.height.ensures

@@ -1,0 +1,4 @@
+pub mod Cases
+pub mod Leaving
+pub mod Stores
+pub mod Theorem

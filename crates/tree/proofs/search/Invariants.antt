@@ -1,0 +1,13 @@
+-- `tree::search` meets its contract: no node passed has the tag. Assumes nothing.
+use Prim.Native.Nat.{◌≤◌, ◌-◌}
+use mathlib.Core.Path.{◌≡◌}
+use mathlib.Core.Option.{none}
+use Rattle.trees.specs.Trees.{tree_of, is_version}
+use Rattle.basics.specs.Count.{first}
+use Rattle.tree.proofs.search.Given as goal
+
+abbrev pub invariant-loop-n : goal.invariant-loop-n
+invariant-loop-n l = (l.n ≤ 128) × (first (is_version (tree_of l.state l.tag l.parent) l.wanted) l.n ≡ none)
+
+abbrev pub decreases-loop-n : goal.decreases-loop-n
+decreases-loop-n l = 128 - l.n

@@ -1,0 +1,36 @@
+-- `writing::write` meets its contract: each return cites the law of its test. Assumes nothing.
+use mathlib.Core.Path.{refl}
+use native.Mathlib.Nat.{mul-le-mul}
+use native.Mathlib.Omega.{arith}
+use Rattle.writes.proofs.WritingWays.{places_refused, width_refused}
+use Rattle.soundness.specs.Judged.{judged_sound, judged_unsound, leaves_refused}
+use Rattle.answers.specs.Answers.{bad_length}
+use Rattle.records.specs.Sound.{Sound}
+use Rattle.records.specs.Records.{records_of}
+use Rattle.basics.specs.Decide.{holds}
+use Rattle.basics.specs.Decide.{fails}
+use Rattle.writing.proofs.write.Goals as goal
+
+pub returns-then-not-sound : goal.returns-then-not-sound
+returns-then-not-sound c = judged_unsound (fails c.sound.result c.sound.ensures c.if-not-sound.true) (refl, refl)
+
+pub overflow_mul-size : goal.overflow_mul-size
+overflow_mul-size c = let judged : (let a = c.args in Sound (records_of a.size a.tree a.node.now a.row.now)) = holds c.sound.result c.sound.ensures c.if-not-sound.false in
+    let w = (judged).measured.within in
+    omega (arith, mul-le-mul w.places.1 w.width.1)
+
+pub returns-then-places-size : goal.returns-then-places-size
+returns-then-places-size c = let judged : (let a = c.args in Sound (records_of a.size a.tree a.node.now a.row.now)) = holds c.sound.result c.sound.ensures c.if-not-sound.false in
+    judged_sound (judged) (leaves_refused bad_length (places_refused _ _ _ _ _ c.if-places-size.true))
+
+pub returns-then-bytes-size : goal.returns-then-bytes-size
+returns-then-bytes-size c = let judged : (let a = c.args in Sound (records_of a.size a.tree a.node.now a.row.now)) = holds c.sound.result c.sound.ensures c.if-not-sound.false in
+    judged_sound (judged) (leaves_refused bad_length (width_refused _ _ _ _ _ c.if-places-size.false c.if-bytes-size.true))
+
+pub write_row-requires : goal.write_row-requires
+write_row-requires c = let judged : (let a = c.args in Sound (records_of a.size a.tree a.node.now a.row.now)) = holds c.sound.result c.sound.ensures c.if-not-sound.false in
+    (judged, c.if-places-size.false, c.if-bytes-size.false)
+
+pub returns : goal.returns
+returns c = let judged : (let a = c.args in Sound (records_of a.size a.tree a.node.now a.row.now)) = holds c.sound.result c.sound.ensures c.if-not-sound.false in
+    judged_sound (judged) c.write_row.ensures
