@@ -12,7 +12,7 @@ use Rattle.trees.specs.Rules.{States, Linked}
 use Rattle.tree.specs.Going.{ancestor_up, ancestor_next, reaches_ind}
 use Rattle.tree.specs.Loops.{Climbing, climb_start}
 use Rattle.table.specs.Rules.{Meets, here, above}
-use Rattle.table.specs.Laws.{climb_ends}
+use Rattle.table.proofs.Laws.{climb_ends}
 use Rattle.asking.specs.Asking.{MeetsAlone}
 
 -- a number for each of 128 nodes: it is 1 where the version at node v alone can read a row of the node. Left free: the others, since a 1 costs only a

@@ -1,5 +1,6 @@
 // One turn of a run, where a command that can change the store stands. What a turn is stands in specs/Turns.antt.
 #![tactic(auto)]
+
 ghost use Rattle.std.specs.Prelude.{◌≡◌, true};
 ghost use Rattle.commands.specs.Format.{changes};
 ghost use Rattle.lines.specs.Turns.{Ready, Turned};

@@ -12,7 +12,7 @@ use Rattle.trees.specs.Trees.{Table, InUse}
 use Rattle.kinds.specs.Kinds.{AtMost}
 use Rattle.nearing.specs.Near.{Near}
 use Rattle.table.specs.Rules.{slot, Judging, ReadAt, here, above}
-use Rattle.table.specs.Laws.{read_own, met_read}
+use Rattle.table.proofs.Laws.{read_own, met_read}
 
 -- entry i is free, or what is near its node has no mark at its row
 abbrev pub Clear : List ℕ → Table → List ℕ → ℕ → Type 0

@@ -12,7 +12,7 @@ use Rattle.trees.specs.Reading.{place}
 use Rattle.reading.specs.Reads.{place_reads, reads_place}
 use Rattle.sharing.specs.Laws.{shared_decides}
 use Rattle.table.specs.Rules.{Judging, Meets}
-use Rattle.table.specs.Laws.{meets_reads, reads_meets}
+use Rattle.table.proofs.Laws.{meets_reads, reads_meets}
 use Rattle.removal.specs.Removal.{lonely, Freed}
 use Rattle.removal.proofs.FreeLonely.{tested, lonely_of, lonely_yes, lonely_taken}
 use Rattle.asking.specs.Asking.{MeetsAlone, Asking}

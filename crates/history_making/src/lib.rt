@@ -1,5 +1,6 @@
 // A call on the store, and whether a refusal changed something.
 #![tactic(auto)]
+
 use history_comparing::unless;
 use history_plans::Call;
 use measures::Size;

@@ -1,5 +1,6 @@
 // A call on both, the store and the full copy, and what differs afterwards.
 #![tactic(auto)]
+
 use history_comparing::{first, unless};
 use history_copies::Answered;
 use history_making::Tried;

@@ -1,5 +1,6 @@
 // A border, the records being bytes. The rows are loaded into a buffer of their own, as small as serves.
 #![tactic(auto)]
+
 ghost use Rattle.std.specs.Prelude.{◌≡◌};
 ghost use Rattle.records.specs.Records.{records_of};
 ghost use Rattle.layout.specs.Layout.{size_at, nodes_at, stored};

@@ -1,5 +1,6 @@
 // An opening, the records being bytes: they are laid where they are lent.
 #![tactic(auto)]
+
 ghost use Rattle.std.specs.Prelude.{◌≡◌, length};
 ghost use Rattle.measures.specs.Measures.{Within};
 ghost use Rattle.layout.specs.Layout.{records_size, stored};

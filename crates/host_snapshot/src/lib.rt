@@ -1,5 +1,6 @@
 // A snapshot, the records being bytes. The rows are loaded into a buffer of their own, as small as serves.
 #![tactic(auto)]
+
 ghost use Rattle.host.specs.Host.{Ready};
 ghost use Rattle.host_snapshot.specs.Snapshots.{HostSnapshots};
 

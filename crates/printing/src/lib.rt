@@ -1,5 +1,6 @@
 // What the program prints: a store of 4 rows of 8 bytes in 6 places takes a stream, and lays a line for each command.
 #![tactic(auto)]
+
 ghost use Rattle.std.specs.Prelude.{◌≤◌, length};
 ghost use Rattle.laying.specs.Laid.{Lays};
 ghost use Rattle.lines.specs.Printed.{printed, served};

@@ -9,7 +9,7 @@ use Rattle.trees.specs.declared.Tree.{Tree}
 use Rattle.trees.specs.Trees.{InUse, Alive, up}
 use Rattle.trees.specs.Rules.{Linked}
 use Rattle.table.specs.Rules.{slot, Meets, here, above}
-use Rattle.table.specs.Laws.{blank_zeros, nodes_none}
+use Rattle.table.proofs.Laws.{blank_zeros, nodes_none}
 use Rattle.asking.specs.Asking.{OthersMeet}
 use Rattle.ordering.specs.Ordered.{Ordered}
 

@@ -1,5 +1,6 @@
 // The C interface: the calls on numbers and slices, the records being bytes, and rows turned to cable order and back. Each is made by a crate of its own.
 #![tactic(auto)]
+
 ghost use Rattle.host_count.specs.Counts.{HostCounts};
 ghost use Rattle.host_snapshot.specs.Snapshots.{HostSnapshots};
 ghost use Rattle.host_delete.specs.Deletes.{HostDeletes};

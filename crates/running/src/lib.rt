@@ -1,5 +1,6 @@
 // Runs a whole stream of commands on a store, and lays a line of text for each.
 #![tactic(auto)]
+
 ghost use Rattle.std.specs.Prelude.{◌≡◌, ◌+◌, ◌*◌, ◌≤◌};
 ghost use Rattle.records.specs.Records.{records_of};
 ghost use Rattle.progress.specs.Replying.{line_room};

@@ -1,5 +1,6 @@
 // One turn of a run: what stands at a position of a stream, and its line.
 #![tactic(auto)]
+
 ghost use Rattle.lines.specs.Turns.{Ready, Turned};
 
 use commands::{Command, Step};

@@ -1,5 +1,6 @@
 // The loop over a stream of commands, from reader to reader.
 #![tactic(auto)]
+
 ghost use Rattle.lines.specs.Loop.{Begins, Through};
 
 use progress::Progress;

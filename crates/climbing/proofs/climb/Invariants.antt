@@ -1,7 +1,7 @@
 -- `climbing::climb` meets its contract: what the node reads is what the node above it reads. Assumes nothing.
 use Prim.Native.Nat.{◌-◌}
 use Rattle.trees.specs.Trees.{tree_of}
-use Rattle.notes.specs.Rising.{Rising}
+use Rattle.notes.proofs.Rising.{Rising}
 use Rattle.climbing.proofs.climb.Given as goal
 
 abbrev pub invariant-loop-k : goal.invariant-loop-k

@@ -1,6 +1,6 @@
 -- `deleting::delete` meets its contract: there is a mark for each node and row. Assumes nothing.
 use native.Mathlib.Omega.{arith}
-use Rattle.table.specs.Laws.{blank_zeros}
+use Rattle.table.proofs.Laws.{blank_zeros}
 use Rattle.deleting.proofs.delete.Goals as goal
 
 pub delete_marked-requires : goal.delete_marked-requires

@@ -8,7 +8,7 @@ use lib.ListN.{length}
 use Rattle.basics.specs.Decide.{at}
 use Rattle.trees.specs.Trees.{table_of}
 use Rattle.trees.specs.Reading.{Owns}
-use Rattle.table.specs.Laws.{verdict_no, entered_free, entered_new, fits_named, fits_unmarked}
+use Rattle.table.proofs.Laws.{verdict_no, entered_free, entered_new, fits_named, fits_unmarked}
 use Rattle.basics.specs.Decide.{holds}
 use Rattle.basics.specs.Decide.{fails}
 use Rattle.entering.proofs.enter.Goals as goal

@@ -5,7 +5,7 @@ use borrow.Author.Count.{below_more}
 use lib.ListN.{length}
 use mathlib.Core.Bool.{false≢true}
 use borrow.Author.Tests.{not-false}
-use Rattle.table.specs.Laws.{excepting_entry, excepting_all}
+use Rattle.table.proofs.Laws.{excepting_entry, excepting_all}
 use Rattle.basics.specs.Decide.{holds}
 use Rattle.basics.specs.Decide.{fails}
 use Rattle.std.proofs.Common.{ap}

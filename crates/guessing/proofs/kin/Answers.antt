@@ -1,5 +1,5 @@
 -- `guessing::kin` meets its contract. Assumes nothing.
-use Rattle.table.specs.Laws.{nodes_none}
+use Rattle.table.proofs.Laws.{nodes_none}
 use Rattle.guessing.proofs.kin.Goals as goal
 
 pub join-requires : goal.join-requires

@@ -1,6 +1,6 @@
 -- `guessing::push` meets its contract. Assumes nothing.
 use native.Mathlib.Omega.{arith}
-use Rattle.table.specs.Laws.{nodes_set}
+use Rattle.table.proofs.Laws.{nodes_set}
 use Rattle.guessing.proofs.push.Goals as goal
 
 pub bounds-first-p : goal.bounds-first-p

@@ -7,4 +7,4 @@ use Rattle.host_count.proofs.count_in.Goals as goal
 
 pub returns : goal.returns
 returns c = let y = c.requires in
-    count_host y.fits c.size-size.ensures c.load-tree.ensures c.count-c.ensures (nodes_part c.args.records.now {n = length c.load-tree.new.1.0} (omega (arith, y.rows)))
+    count_host y.fits c.size-size.ensures c.load-tree.ensures c.count-c.ensures (nodes_part c.args.records.now {n = length c.load-tree.new.row} (omega (arith, y.rows)))

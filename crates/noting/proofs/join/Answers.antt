@@ -1,7 +1,7 @@
 -- `noting::join` meets its contract. Assumes nothing.
 use mathlib.Core.Path.{sym}
 use native.Mathlib.Omega.{arith}
-use Rattle.notes.specs.Making.{joined_out, joined_kept, joined_new}
+use Rattle.notes.proofs.Making.{joined_out, joined_kept, joined_new}
 use Rattle.noting.proofs.join.Goals as goal
 
 pub returns-then-n-ge128 : goal.returns-then-n-ge128

@@ -6,8 +6,8 @@ use Prim.Native.Nat.{◌-◌}
 use lib.ListN.{length}
 use Rattle.basics.specs.Decide.{holds}
 use Rattle.basics.specs.Decide.{fails}
-use Rattle.notes.specs.Making.{noting_past}
-use Rattle.notes.specs.Making.{noting_next}
+use Rattle.notes.proofs.Making.{noting_past}
+use Rattle.notes.proofs.Making.{noting_next}
 use Rattle.noting.proofs.note.Goals as goal
 use Rattle.noting.proofs.note.Goals.{else-is_row, then-is_row}
 

@@ -2,7 +2,7 @@
 use native.Mathlib.Omega.{arith}
 use Rattle.trees.specs.Trees.{table_of}
 use Rattle.basics.specs.Decide.{fails}
-use Rattle.notes.specs.Making.{noting_start, noting_over, noting_all}
+use Rattle.notes.proofs.Making.{noting_start, noting_over, noting_all}
 use Rattle.noting.proofs.notes.Goals as goal
 
 pub loop-from-init : goal.loop-from-init

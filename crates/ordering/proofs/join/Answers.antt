@@ -1,6 +1,6 @@
 -- `ordering::join` meets its contract. Assumes nothing.
 use native.Mathlib.Omega.{arith}
-use Rattle.table.specs.Laws.{nodes_set}
+use Rattle.table.proofs.Laws.{nodes_set}
 use Rattle.ordering.proofs.join.Goals as goal
 
 pub loop-m-preserved : goal.loop-m-preserved

@@ -1,7 +1,7 @@
 -- `ordering::lined_up` meets its contract. Assumes nothing.
 use Prim.Native.Nat.{◌<◌}
 use native.Mathlib.Omega.{arith}
-use Rattle.table.specs.Laws.{nodes_none}
+use Rattle.table.proofs.Laws.{nodes_none}
 use Rattle.ordering.proofs.lined_up.Goals as goal
 
 pub join-count-requires : goal.join-count-requires

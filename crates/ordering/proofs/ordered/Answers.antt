@@ -3,7 +3,7 @@ use borrow.Author.Tests.{not-true, not-false}
 use mathlib.Core.Path.{refl}
 use native.Mathlib.Omega.{arith}
 use Rattle.basics.specs.Decide.{decides_iff}
-use Rattle.table.specs.Laws.{blank_zeros}
+use Rattle.table.proofs.Laws.{blank_zeros}
 use Rattle.trees.specs.Trees.{tree_of}
 use Rattle.ordering.specs.Ordered.{ordered_all}
 use Rattle.std.proofs.Common.{ap}

@@ -3,7 +3,7 @@ use mathlib.Core.Path.{sym}
 use borrow.Author.Tests.{not-false}
 use native.Mathlib.Omega.{arith}
 use lib.Seq.{length-take-le}
-use Rattle.table.specs.Laws.{verdict_no}
+use Rattle.table.proofs.Laws.{verdict_no}
 use Rattle.basics.specs.Decide.{holds}
 use Rattle.basics.specs.Decide.{fails}
 use Rattle.std.proofs.Common.{ap}

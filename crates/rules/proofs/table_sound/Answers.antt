@@ -1,7 +1,7 @@
 -- `rules::table_sound` meets its contract: rule 6, which leaves the marks, and then rule 7. Assumes nothing.
 use mathlib.Core.Bool.{false≢true}
 use borrow.Author.Tests.{not-false}
-use Rattle.table.specs.Laws.{entering_first}
+use Rattle.table.proofs.Laws.{entering_first}
 use Rattle.trees.specs.Trees.{tree_of, table_of}
 use Rattle.trees.specs.Rules.{Excepting}
 use Rattle.basics.specs.Decide.{holds}

@@ -2,7 +2,7 @@
 use mathlib.Core.Path.{sym, ◌∙◌, ap}
 use native.Mathlib.Omega.{arith}
 use Prim.Native.Nat.{◌<◌}
-use Rattle.table.specs.Laws.{read_own, met_read}
+use Rattle.table.proofs.Laws.{read_own, met_read}
 use Rattle.basics.specs.Decide.{at, holds, fails}
 use Rattle.seeking.proofs.is_read.Goals as goal
 

@@ -1,7 +1,7 @@
 -- `soundness::judged` meets its contract: the parts, one after the other. Assumes nothing.
 use mathlib.Core.Path.{sym, ◌∙◌}
 use Rattle.soundness.specs.Parts.{sound_of, tree_of_lem, table_of}
-use Rattle.table.specs.Laws.{verdict_no}
+use Rattle.table.proofs.Laws.{verdict_no}
 use Rattle.records.specs.Sound.{Measured}
 use Rattle.trees.specs.Trees.{tree_of}
 use Rattle.records.specs.Records.{records_of}

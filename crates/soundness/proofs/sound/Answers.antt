@@ -1,6 +1,6 @@
 -- `soundness::sound` meets its contract: there is a mark for each node and row. Assumes nothing.
 use native.Mathlib.Omega.{arith}
-use Rattle.table.specs.Laws.{blank_zeros}
+use Rattle.table.proofs.Laws.{blank_zeros}
 use Rattle.soundness.proofs.sound.Goals as goal
 
 pub judged-requires : goal.judged-requires

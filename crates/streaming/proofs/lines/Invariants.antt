@@ -6,9 +6,9 @@ use Rattle.streaming.proofs.lines.Given as goal
 
 abbrev pub invariant-loop-run : goal.invariant-loop-run
 invariant-loop-run l = record {
-  begins : Begins l.width l.first l.stream l.fn.out;
+  begins : Begins l.width l.fn.first l.stream l.fn.out;
   reads : l.reader.stream.now ≡ l.stream;
-  goes : Going l.first l.fn.node l.fn.row l.fn.places l.stream l.fn.out l.run l.node l.row l.places l.out (reached l.stream l.run l.reader.at);
+  goes : Going l.fn.first l.fn.node l.fn.row l.fn.places l.stream l.fn.out l.run l.node l.row l.places l.out (reached l.stream l.run l.reader.at);
 }
 
 abbrev pub decreases-loop-run : goal.decreases-loop-run

@@ -10,7 +10,7 @@ use Rattle.trees.specs.Trees.{Table, InUse, up}
 use Rattle.trees.specs.Reading.{entry, climb, place}
 use Rattle.reading.specs.Reads.{climb_root, climb_own, climb_up}
 use Rattle.notes.specs.Notes.{note_of, Noted, Climbed}
-use Rattle.notes.specs.Making.{note_none, note_some, no_note}
+use Rattle.notes.proofs.Making.{note_none, note_some, no_note}
 
 -- what n reads is what m reads with the steps that are left, in every table whose notes these are
 pub record Rising (t : Tree) (notes : List ℕ) (n r m k : ℕ) : Type 0 where
