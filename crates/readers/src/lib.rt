@@ -1,4 +1,4 @@
-// A reader holds a stream and the position of its next command. Its functions take it apart and are walked by hand, in proofs/.
+// A reader holds a stream and the position of its next command. Its functions take it apart.
 #![tactic(auto)]
 
 ghost use Rattle.std.specs.Prelude.{◌≡◌, ◌≤◌};

@@ -1,10 +1,10 @@
--- A loop that goes from reader to reader, with four slices that each turn writes, for any type of run and any facts:
+-- A loop that goes from reader to reader, with four lists that each turn writes, for any type of run and any facts, as functions of the logic:
 --     while going(run) { step = here(stream, at, width); (run, lists) = serve(run, step, stream, at, lists); at = step.next; }
 -- Where a turn keeps what it has to and comes nearer to the end, the loop ends, with what it is to reach. Assumes nothing.
-use Rattle.std.proofs.Common.{◌≡◌, refl, ℕ, zero, suc, ◌+◌, ◌<◌, ◌≤◌, Bool, true, false, List, length, arith}
+use Rattle.std.proofs.Common.{◌≡◌, refl, ◌∙◌, ℕ, zero, suc, ◌+◌, ◌<◌, ◌≤◌, Bool, true, false, List, length, arith}
 use Rattle.commands.specs.declared.Step.{Step}
 
--- the four slices
+-- the four lists
 pub record Lists : Type 0 where
   pub node : List ℕ
   pub row : List ℕ
@@ -16,6 +16,12 @@ pub record Sized (L L' : Lists) : Type 0 where
   pub row : length L'.row ≡ length L.row
   pub places : length L'.places ≡ length L.places
   pub out : length L'.out ≡ length L.out
+
+sized_same : {L : Lists} → Sized L L
+sized_same = record { node = refl; row = refl; places = refl; out = refl }
+
+sized_then : {L M N : Lists} → Sized L M → Sized M N → Sized L N
+sized_then a b = record { node = b.node ∙ a.node; row = b.row ∙ a.row; places = b.places ∙ a.places; out = b.out ∙ a.out }
 
 cases_of : {A : Type 0} (b : Bool) → (b ≡ true → A) → (b ≡ false → A) → A
 cases_of true f g = f refl
@@ -54,7 +60,7 @@ module _ (Run : Type 0) (going : Run → Bool) where
 
     -- from a turn at which the facts hold, the loop ends with what it is to reach
     pub loop_ends : (F : Facts) → Meets F → (s : List ℕ) (w : ℕ) (r₀ : Run) (L₀ : Lists) (n p : ℕ) (r : Run) (L : Lists) → F.μ s p r L + 1 ≤ n → F.Inv s w r₀ L₀ p r L
-        → (r' : Run) × (L' : Lists) × Loops s w p r L r' L' × F.Post s w r₀ L₀ r' L'
+        → (r' : Run) × (L' : Lists) × Loops s w p r L r' L' × Sized L L' × F.Post s w r₀ L₀ r' L'
     loop_ends F m s w r₀ L₀ zero p r L l i = absurd (omega arith)
     loop_ends F m s w r₀ L₀ (suc n) p r L l i = cases_of (going r)
         (λ e.
@@ -62,5 +68,5 @@ module _ (Run : Type 0) (going : Run → Bool) where
         let k = m.serves r (here s p w) s p L (F.asks s w r₀ L₀ p r L (here s p w) i e h) in
         let j = F.next s w r₀ L₀ p r L (here s p w) _ _ i e h k.0 k.1 in
         let z = loop_ends F m s w r₀ L₀ n (here s p w).next _ _ (omega (arith, j.1, l)) j.0 in
-        (z.0, z.1, turned e z.2, z.3))
-        (λ e. (r, L, ended e, F.over s w r₀ L₀ p r L i e))
+        (z.0, z.1, turned e z.2, sized_then k.1 z.3, z.4))
+        (λ e. (r, L, ended e, sized_same, F.over s w r₀ L₀ p r L i e))
