@@ -8,21 +8,23 @@ ghost use Rattle.lines.specs.Printed.{printed};
 use std::io;
 use std::io::{Read, Write};
 
-// Reads until the buffer is full or the input ends, and says how many bytes were read.
-fn read_full<R: Read>(from: &mut R, input: &mut [u8]) -> io::Result<usize>
-    ensures within { IfOk result (λ n. n ≤ length input.new) }
-    ensures bytes { IfOk result (λ n. Consumes (R.remaining from.old) (R.remaining from.new) (take n input.new)) }
-    ensures end { IfOk result (λ n. n < length input.new → IsAtEnd (R.remaining from.new)) }
+// Reads until the buffer is full, the input ends or a read fails, and says how many bytes were read.
+fn read_full<R: Read>(from: &mut R, input: &mut [u8], count: &mut usize) -> io::Result<()>
+    ensures within { count.new ≤ length input.new }
+    ensures bytes { IfOk result (λ _. Consumes (R.remaining from.old) (R.remaining from.new) (take count.new input.new)) }
+    ensures end { IfOk result (λ _. count.new < length input.new → IsAtEnd (R.remaining from.new)) }
 {
     let mut done = 0;
+    *count = 0;
     while done < input.len() {
         let n = from.read(&mut input[done..])?;
         if n == 0 {
-            return Ok(done);
+            return Ok(());
         }
         done += n;
+        *count = done;
     }
-    Ok(done)
+    Ok(())
 }
 
 fn print_out<W: Write>(to: &mut W, stream: &[u8], out: &mut [u8]) -> io::Result<()>
@@ -33,17 +35,22 @@ fn print_out<W: Write>(to: &mut W, stream: &[u8], out: &mut [u8]) -> io::Result<
     to.write_all(&out[..end])
 }
 
-// Answers all that is left to read. Of a stream of over 4,096 bytes no more is read than shows that it is too long.
+// Answers all that is left to read, or what was read before a read failed. Of a stream of over 4,096 bytes no more is read than shows that it is too long.
 fn run<R: Read, W: Write>(from: &mut R, to: &mut W) -> io::Result<()>
     ensures { OnOk result (IfSome (R.remaining from.old) (λ stream.
         Appends (W.contents to.old) (W.contents to.new) (printed stream))) }
 {
     let mut input = [0u8; 4097];
     let mut out = [0u8; 147456];
-    let n = read_full(from, &mut input)?;
-    print_out(to, &input[..n], &mut out)
+    let mut n = 0;
+    let read = read_full(from, &mut input, &mut n);
+    print_out(to, &input[..n], &mut out)?;
+    read
 }
 
-fn main(rt: HostRuntime) -> io::Result<()> {
-    run(&mut rt.reader(), &mut io::writer(&rt))
+// Input that cannot be read counts as ended, and output that cannot be written is lost.
+fn main(rt: HostRuntime) {
+    match run(&mut rt.reader(), &mut io::writer(&rt)) {
+        Ok(()) | Err(_) => {}
+    }
 }

@@ -27,5 +27,6 @@ loop-done-preserved g c =
     record {
       same = search rules;
       within = search rules;
+      counted = search rules;
       bytes = subst (Consumes _ _) (ap (λ l. take from c.loop-done.input ++ l) (sym part) ∙ joined) (Consumes-trans _ _ _ _ _ c.loop-done.invariant.bytes c.in_ok-n.ensures.bytes.0);
     }

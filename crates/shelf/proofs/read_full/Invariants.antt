@@ -6,6 +6,7 @@ abbrev pub invariant-loop-done : goal.invariant-loop-done
 invariant-loop-done g l = record {
   same : length l.input ≡ length l.initial.input;
   within : l.done ≤ length l.input;
+  counted : l.count ≡ l.done;
   bytes : Consumes (g.R.Read.remaining l.initial.from) (g.R.Read.remaining l.from) (take l.done l.input);
 }
 
