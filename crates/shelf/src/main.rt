@@ -11,7 +11,7 @@ use std::io::{Read, Write};
 // Reads until the buffer is full, the input ends or a read fails, and says how many bytes were read.
 fn read_full<R: Read>(from: &mut R, input: &mut [u8], count: &mut usize) -> io::Result<()>
     ensures within { count.new ≤ length input.new }
-    ensures bytes { IfOk result (λ _. Consumes (R.remaining from.old) (R.remaining from.new) (take count.new input.new)) }
+    ensures bytes { Consumes (R.remaining from.old) (R.remaining from.new) (take count.new input.new) }
     ensures end { IfOk result (λ _. count.new < length input.new → IsAtEnd (R.remaining from.new)) }
 {
     let mut done = 0;

@@ -1,5 +1,6 @@
 use Rattle.std.proofs.Common.{◌≡◌, ℕ, ◌≤◌, ◌<◌, List, ◌++◌, length, take, ap, sym, subst, ◌∙◌, arith, refl, None, Some, IfSome, append-nil, length-append, inl, inr, length-take-le, rules}
-use Rattle.std.specs.Prelude.{Option, Result, Ok, Err, IfOk}
+use Rattle.std.specs.Prelude.{Option}
+use Rattle.std.proofs.lemmas.Result.{on_ok_weaker}
 use Rattle.std.proofs.lemmas.Bool.{lt-ltb, cases_lt}
 use Rattle.std.specs.Io.KnownBytes.{Appends, Consumes, IsAtEnd}
 use Rattle.lines.specs.Printed.{printed}
@@ -23,14 +24,11 @@ answered None b old new front p end w = tt
 answered (Some x) None old new front p end w = absurd p
 answered (Some x) (Some y) old new front p end w = subst (Appends old new) (sym (ap printed p ∙ printed_read front y end)) w
 
-both : {T E A B C : Type 0} (r : Result T E) → IfOk r (λ _. A) → IfOk r (λ _. B) → (A → B → C) → IfOk r (λ _. C)
-both (Ok x) a b f = f a b
-both (Err e) a b f = tt
-
 pub returns : goal.returns
 returns g c =
     let n = c.read_full-read.new.count in
     let read : length (take n c.read_full-read.new.input) ≡ n = length-take-le n c.read_full-read.new.input c.read_full-read.ensures.within in
     let room : length c.read_full-read.new.input ≡ 4097 = search rules in
-    both c.read_full-read.result c.read_full-read.ensures.bytes c.read_full-read.ensures.end
-    (λ p e. answered _ _ _ _ (take n c.read_full-read.new.input) p (λ h. e (omega arith)) c.in_ok-print_out.ensures)
+    on_ok_weaker c.read_full-read.result
+    (λ e. answered _ _ _ _ (take n c.read_full-read.new.input) c.read_full-read.ensures.bytes (λ h. e (omega arith)) c.in_ok-print_out.ensures)
+    c.read_full-read.ensures.end
