@@ -6,7 +6,8 @@ use Rattle.std.proofs.Math.Option.{Option, none, some}
 use Rattle.basics.specs.Equal.{equal, equal_refl, equal_true}
 use Rattle.measures.specs.declared.Size.{Size}
 use Rattle.model.specs.Call.{Single, snapshot, read, write, delete, count}
-use Rattle.answers.specs.Answers.{Refusal, Answer}
+use Rattle.answers.specs.declared.Refusal.{Refusal}
+use Rattle.answers.specs.Answers.{Answer}
 use Rattle.copies.specs.Copies.{Cell, Live, places_used}
 use Rattle.maps.specs.Map.{first_map, Alike}
 use Rattle.maps.specs.Keeping.{used_same, first_mirrors, start_mirrors, alike_keeps, snapshot_keeps, delete_keeps}

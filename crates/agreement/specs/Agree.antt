@@ -2,7 +2,8 @@
 use Rattle.std.specs.Prelude.{◌≡◌, List, ℕ}
 use Rattle.std.proofs.Math.Option.{Option}
 use Rattle.measures.specs.declared.Size.{Size}
-use Rattle.answers.specs.Answers.{Refusal, Answer, refused_of}
+use Rattle.answers.specs.declared.Refusal.{Refusal}
+use Rattle.answers.specs.Answers.{Answer, refused_of}
 use Rattle.answers.specs.Tests.{refusal, unless}
 use Rattle.maps.specs.Map.{Map, joined, left, Alike, Save, Mirrors}
 use Rattle.model.specs.Call.{Single, snapshot, read, write, delete, count, one}

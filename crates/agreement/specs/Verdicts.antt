@@ -10,7 +10,8 @@ use borrow.Author.Tests.{eqb-false, leb-false, not-false}
 use Rattle.basics.specs.Equal.{equal}
 use Rattle.measures.specs.declared.Size.{Size}
 use Rattle.model.specs.Call.{Single, snapshot, read, write, delete, count, one}
-use Rattle.answers.specs.Answers.{places_full, row, counts, refused_of}
+use Rattle.answers.specs.declared.Refusal.TheVariants.{PlacesFull}
+use Rattle.answers.specs.Answers.{row, counts, refused_of}
 use Rattle.model.specs.Model.{Model, tests, gives, accepted, verdict, answer}
 use Rattle.answers.specs.Tests.{Tests, or_else, refusal}
 use Rattle.answers.proofs.Laws.{unless_same, refusal_same}
@@ -63,7 +64,7 @@ module _ (z : Size) {m : RowMap} {s : Model} (a : Agree z m s) where
   verdict_same (read t r) = rw (living_same t)
   verdict_same (write t r bs) = rw (living_same t) (refusal_same _ _ _ _ (λ o. refusal_same _ _ _ _ (λ l. refusal_same _ _ _ _ (λ h.
       let l' : Live z.rows s.snapshots (t, r) = (not-false _ h, leb-false _ _ l) in
-      ap₂ (λ (x : Bool × ℕ) (bytes : List ℕ). refusal ((x.0 && leb z.places x.1 && not (equal bs bytes), places_full) ∷ []))
+      ap₂ (λ (x : Bool × ℕ) (bytes : List ℕ). refusal ((x.0 && leb z.places x.1 && not (equal bs bytes), PlacesFull) ∷ []))
       (ap₂ (λ (x : Bool) (n : ℕ). (x, n)) (shared_same z.rows a.rows t r l') (used_same z.rows a.rows)) (a.rows.content (t, r) l')))))
   verdict_same (delete t) = rw (living_same t)
   verdict_same count = refl

@@ -5,7 +5,9 @@ use Rattle.std.proofs.Math.Option.{Option, none, some}
 use Rattle.basics.specs.Decide.{and_yes, both}
 use Rattle.measures.specs.declared.Size.{Size}
 use Rattle.measures.specs.Measures.{Within}
-use Rattle.answers.specs.Answers.{Refusal, bad_size, bad_length, bad_row, zero_tag, origin_tag, unknown_command, cut_command, long_stream, unsound, unknown_tag, tag_alive, snapshots_full, places_full, too_many_rows, number, handed, done, refused}
+use Rattle.answers.specs.declared.Refusal.{Refusal}
+use Rattle.answers.specs.declared.Refusal.TheVariants.{BadSize, BadLength, BadRow, ZeroTag, OriginTag, UnknownCommand, CutCommand, LongStream, Unsound, UnknownTag, TagAlive, SnapshotsFull, PlacesFull, TooManyRows}
+use Rattle.answers.specs.Answers.{number, handed, done, refused}
 use Rattle.answers.specs.Tests.{Tests, refusal, unless, verdict_number, in_measure}
 
 pub refusal_here : {b : Bool} (r : Refusal) (ts : Tests) → b ≡ true → refusal ((b, r) ∷ ts) ≡ some r
@@ -38,20 +40,20 @@ unless_same (some r) f h = refl
 
 -- no refusal has the number 0
 pub number_some : (r : Refusal) → number r ≡ 0 → ⊥
-number_some bad_size e = omega (arith, e)
-number_some bad_length e = omega (arith, e)
-number_some bad_row e = omega (arith, e)
-number_some zero_tag e = omega (arith, e)
-number_some origin_tag e = omega (arith, e)
-number_some unknown_command e = omega (arith, e)
-number_some cut_command e = omega (arith, e)
-number_some long_stream e = omega (arith, e)
-number_some unsound e = omega (arith, e)
-number_some unknown_tag e = omega (arith, e)
-number_some tag_alive e = omega (arith, e)
-number_some snapshots_full e = omega (arith, e)
-number_some places_full e = omega (arith, e)
-number_some too_many_rows e = omega (arith, e)
+number_some BadSize e = omega (arith, e)
+number_some BadLength e = omega (arith, e)
+number_some BadRow e = omega (arith, e)
+number_some ZeroTag e = omega (arith, e)
+number_some OriginTag e = omega (arith, e)
+number_some UnknownCommand e = omega (arith, e)
+number_some CutCommand e = omega (arith, e)
+number_some LongStream e = omega (arith, e)
+number_some Unsound e = omega (arith, e)
+number_some UnknownTag e = omega (arith, e)
+number_some TagAlive e = omega (arith, e)
+number_some SnapshotsFull e = omega (arith, e)
+number_some PlacesFull e = omega (arith, e)
+number_some TooManyRows e = omega (arith, e)
 
 -- later tests may be compared as if the earlier ones did not hold
 pub refusal_same : (b : Bool) (r : Refusal) (ts us : Tests) → (b ≡ false → refusal ts ≡ refusal us) → refusal ((b, r) ∷ ts) ≡ refusal ((b, r) ∷ us)

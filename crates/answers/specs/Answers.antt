@@ -1,26 +1,23 @@
 -- What a call answers, and the number of each refusal (SPEC 7.2). Definitions only. Assumes nothing.
 use Rattle.std.specs.Prelude.{List, [], ◌∷◌, ℕ, replicate}
-
-pub data Refusal : Type 0 where
-  bad_size bad_length bad_row zero_tag origin_tag : Refusal
-  unknown_command cut_command long_stream : Refusal
-  unsound unknown_tag tag_alive snapshots_full places_full too_many_rows : Refusal
+use Rattle.answers.specs.declared.Refusal.{Refusal}
+use Rattle.answers.specs.declared.Refusal.TheVariants.{BadSize, BadLength, BadRow, ZeroTag, OriginTag, UnknownCommand, CutCommand, LongStream, Unsound, UnknownTag, TagAlive, SnapshotsFull, PlacesFull, TooManyRows}
 
 abbrev pub number : Refusal → ℕ
-number bad_size = 1
-number bad_length = 2
-number bad_row = 3
-number zero_tag = 4
-number origin_tag = 5
-number unknown_command = 6
-number cut_command = 7
-number long_stream = 8
-number unsound = 20
-number unknown_tag = 21
-number tag_alive = 22
-number snapshots_full = 23
-number places_full = 24
-number too_many_rows = 25
+number BadSize = 1
+number BadLength = 2
+number BadRow = 3
+number ZeroTag = 4
+number OriginTag = 5
+number UnknownCommand = 6
+number CutCommand = 7
+number LongStream = 8
+number Unsound = 20
+number UnknownTag = 21
+number TagAlive = 22
+number SnapshotsFull = 23
+number PlacesFull = 24
+number TooManyRows = 25
 
 -- What a caller is handed: a number, the bytes of a row (else none), and the numbers that the call gives beside, each 0 if it is refused
 pub record Answer : Type 0 where

@@ -1,7 +1,8 @@
 -- Steps in order, ending before the first that is refused: how many were done, the refusal that ended them, and what is left. Definitions only. Assumes nothing.
 use Rattle.std.specs.Prelude.{List, [], ◌∷◌, ℕ, suc}
 use Rattle.std.proofs.Math.Option.{Option, none, some}
-use Rattle.answers.specs.Answers.{Refusal, Answer, handed}
+use Rattle.answers.specs.declared.Refusal.{Refusal}
+use Rattle.answers.specs.Answers.{Answer, handed}
 use Rattle.answers.specs.Tests.{unless, verdict_number}
 
 pub record Ended (S : Type 0) : Type 0 where

@@ -2,7 +2,9 @@
 use Rattle.std.specs.Prelude.{Bool, true, false, not, ◌&&◌, List, [], ◌∷◌, ℕ, ◌-◌, ◌*◌, eqb, leb}
 use Rattle.std.proofs.Math.Option.{Option, none, some}
 use Rattle.measures.specs.declared.Size.{Size}
-use Rattle.answers.specs.Answers.{Refusal, bad_size, bad_length, number}
+use Rattle.answers.specs.declared.Refusal.{Refusal}
+use Rattle.answers.specs.declared.Refusal.TheVariants.{BadSize, BadLength}
+use Rattle.answers.specs.Answers.{number}
 
 abbrev pub Tests : Type 0
 Tests = List (Bool × Refusal)
@@ -34,8 +36,8 @@ in_measure z =
 -- opening sees the lent buffers by their lengths: the places, and the two halves of the table
 unfoldable pub open_tests : Size → ℕ → ℕ → ℕ → Tests
 open_tests z places nodes rows =
-    (not (in_measure z), bad_size)
-    ∷ (not (eqb places (z.places * z.width)), bad_length)
-    ∷ (not (eqb nodes (z.places - z.rows)), bad_length)
-    ∷ (not (eqb rows (z.places - z.rows)), bad_length)
+    (not (in_measure z), BadSize)
+    ∷ (not (eqb places (z.places * z.width)), BadLength)
+    ∷ (not (eqb nodes (z.places - z.rows)), BadLength)
+    ∷ (not (eqb rows (z.places - z.rows)), BadLength)
     ∷ []

@@ -9,8 +9,7 @@ pub fn has(bits: &[u8], k: usize) -> bool
     requires { k < 8 * length bits.now }
     ensures { result ≡ has bits.now k }
 {
-    let s = (k % 8) as u8;
-    (bits[k / 8] >> s) % 2 == 1
+    (bits[k / 8] >> (k % 8)) % 2 == 1
 }
 
 // Number k joins the set.
@@ -18,8 +17,5 @@ pub fn join(bits: &mut [u8], k: usize)
     requires { (k < 8 * length bits.old) × (has bits.old k ≡ false) }
     ensures { bits.new ≡ joined bits.old k }
 {
-    let i = k / 8;
-    let s = (k % 8) as u8;
-    let one: u8 = 1;
-    bits[i] = bits[i] + (one << s);
+    bits[k / 8] += 1 << (k % 8);
 }

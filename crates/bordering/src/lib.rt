@@ -4,10 +4,11 @@
 ghost use Rattle.records.specs.Records.{records_of};
 ghost use Rattle.owning.specs.Owning.{held};
 ghost use Rattle.borders.specs.Bordering.{BorderEnds};
+ghost use Rattle.borders.specs.Refused.{number_of};
 
+use answers::Refusal;
 use measures::Size;
 use sequencing::Bordered;
-use tree::Found;
 use trees::Tree;
 
 // Refusals: 20, 25, 2, 21, and then those of single writes, 3 and 24. What was done before a row that is refused stays; else a
@@ -23,44 +24,23 @@ pub fn border(
     bytes: &[u8],
 ) -> Bordered
     ensures { BorderEnds (records_of size tree node.old row.old) places.old tag rows.now bytes.now
-        result.answer result.done
+        (number_of result.refusal) result.done
         (held result.tree node.new row.new places.new) }
 {
-    if !soundness::sound(size, &tree.state, &tree.tag, &tree.parent, node, row) {
-        return Bordered {
-            answer: 20,
-            done: 0,
-            tree,
-        };
+    if !soundness::sound(size, &tree, node, row) {
+        return sequencing::refused(Refusal::Unsound, tree);
     }
     if rows.len() > 64 {
-        return Bordered {
-            answer: 25,
-            done: 0,
-            tree,
-        };
+        return sequencing::refused(Refusal::TooManyRows, tree);
     }
     if places.len() != size.places * size.width {
-        return Bordered {
-            answer: 2,
-            done: 0,
-            tree,
-        };
+        return sequencing::refused(Refusal::BadLength, tree);
     }
     if bytes.len() != rows.len() * size.width {
-        return Bordered {
-            answer: 2,
-            done: 0,
-            tree,
-        };
+        return sequencing::refused(Refusal::BadLength, tree);
     }
-    let found = tree::version(&tree.state, &tree.tag, &tree.parent, tag);
-    let Found::At(_) = found else {
-        return Bordered {
-            answer: 21,
-            done: 0,
-            tree,
-        };
+    let Some(_) = tree::version(&tree, tag) else {
+        return sequencing::refused(Refusal::UnknownTag, tree);
     };
     sequencing::write_rows(size, tree, node, row, places, tag, rows, bytes)
 }

@@ -7,7 +7,7 @@ use Rattle.basics.specs.Decide.{at}
 use Rattle.measures.specs.declared.Size.{Size}
 use Rattle.measures.specs.Rows.{rows_from, rows_all, rows_over, rows_next}
 use Rattle.records.specs.Records.{records_of}
-use Rattle.answers.specs.Answers.{Refusal}
+use Rattle.answers.specs.declared.Refusal.{Refusal}
 use Rattle.answers.proofs.Laws.{verdict_none}
 use Rattle.answers.specs.InOrder.{Ended, in_order}
 use Rattle.answers.specs.InOrderLaws.{order_ends, order_goes}

@@ -9,7 +9,9 @@ use Rattle.basics.specs.Decide.{not_yes, not_no}
 use Rattle.measures.specs.Measures.{rows_with}
 use Rattle.records.specs.Records.{Records, lives}
 use Rattle.trees.specs.Trees.{version}
-use Rattle.answers.specs.Answers.{Refusal, too_many_rows, bad_length, unknown_tag, number}
+use Rattle.answers.specs.declared.Refusal.{Refusal}
+use Rattle.answers.specs.declared.Refusal.TheVariants.{TooManyRows, BadLength, UnknownTag}
+use Rattle.answers.specs.Answers.{number}
 use Rattle.answers.specs.Tests.{Tests, refusal, unless}
 use Rattle.answers.proofs.Laws.{refusal_here, refusal_next, refusal_none}
 use Rattle.answers.specs.InOrder.{stopped}
@@ -19,13 +21,13 @@ use Rattle.borders.specs.Bordering.{border_tests, border_verdict, row_verdict, r
 
 module _ (z : Records) (places : List ℕ) (tag : ℕ) (rows bytes : List ℕ) where
   tag_test : Tests
-  tag_test = (not (lives z tag), unknown_tag) ∷ []
+  tag_test = (not (lives z tag), UnknownTag) ∷ []
 
   bytes_test : Tests
-  bytes_test = (not (eqb (length bytes) (length rows * z.size.width)), bad_length) ∷ tag_test
+  bytes_test = (not (eqb (length bytes) (length rows * z.size.width)), BadLength) ∷ tag_test
 
   places_test : Tests
-  places_test = (not (eqb (length places) (z.size.places * z.size.width)), bad_length) ∷ bytes_test
+  places_test = (not (eqb (length places) (z.size.places * z.size.width)), BadLength) ∷ bytes_test
 
   -- refused before a row is done, or not
   refused_first : {x : Refusal} → border_verdict z places tag rows bytes ≡ some x → Ends (bordered z places tag rows bytes) (number x) 0 (held z.tree z.node z.row places)
@@ -49,37 +51,37 @@ module _ (z : Records) (places : List ℕ) (tag : ℕ) (rows bytes : List ℕ) w
 
   pub many_refused : 64 < length rows → Ends (bordered z places tag rows bytes) 25 0 (held z.tree z.node z.row places)
   unfolding border_verdict border_tests
-  many_refused l = refused_first {x = too_many_rows} (refusal_here too_many_rows _ (le-leb 65 (length rows) (omega arith)))
+  many_refused l = refused_first {x = TooManyRows} (refusal_here TooManyRows _ (le-leb 65 (length rows) (omega arith)))
 
   module _ (few : length rows ≤ 64) where
     few_passed : border_verdict z places tag rows bytes ≡ refusal places_test
     unfolding border_verdict border_tests places_test bytes_test tag_test
-    few_passed = refusal_next too_many_rows _ (lt-leb 65 (length rows) (omega arith))
+    few_passed = refusal_next TooManyRows _ (lt-leb 65 (length rows) (omega arith))
 
     pub places_refused : (length places ≡ z.size.places * z.size.width → ⊥) → Ends (bordered z places tag rows bytes) 2 0 (held z.tree z.node z.row places)
     unfolding places_test
-    places_refused h = refused_first {x = bad_length} (few_passed ∙ refusal_here bad_length bytes_test (not_yes (ne_eqb _ _ h)))
+    places_refused h = refused_first {x = BadLength} (few_passed ∙ refusal_here BadLength bytes_test (not_yes (ne_eqb _ _ h)))
 
     module _ (p : length places ≡ z.size.places * z.size.width) where
       places_passed : border_verdict z places tag rows bytes ≡ refusal bytes_test
       unfolding places_test
-      places_passed = few_passed ∙ refusal_next bad_length bytes_test (not_no (eq-eqb _ _ p))
+      places_passed = few_passed ∙ refusal_next BadLength bytes_test (not_no (eq-eqb _ _ p))
 
       pub bytes_refused : (length bytes ≡ length rows * z.size.width → ⊥) → Ends (bordered z places tag rows bytes) 2 0 (held z.tree z.node z.row places)
       unfolding bytes_test
-      bytes_refused h = refused_first {x = bad_length} (places_passed ∙ refusal_here bad_length tag_test (not_yes (ne_eqb _ _ h)))
+      bytes_refused h = refused_first {x = BadLength} (places_passed ∙ refusal_here BadLength tag_test (not_yes (ne_eqb _ _ h)))
 
       module _ (b : length bytes ≡ length rows * z.size.width) where
         bytes_passed : border_verdict z places tag rows bytes ≡ refusal tag_test
         unfolding bytes_test
-        bytes_passed = places_passed ∙ refusal_next bad_length tag_test (not_no (eq-eqb _ _ b))
+        bytes_passed = places_passed ∙ refusal_next BadLength tag_test (not_no (eq-eqb _ _ b))
 
         pub tag_refused : version z.tree tag ≡ none → Ends (bordered z places tag rows bytes) 21 0 (held z.tree z.node z.row places)
         unfolding tag_test lives
-        tag_refused v = refused_first {x = unknown_tag} (bytes_passed ∙ refusal_here unknown_tag [] (rw v))
+        tag_refused v = refused_first {x = UnknownTag} (bytes_passed ∙ refusal_here UnknownTag [] (rw v))
 
         -- the rows are left
         pub tag_passed : (v : ℕ) → version z.tree tag ≡ some v → {n d : ℕ} {got : Held} → Ends (rows_written z.size tag (held z.tree z.node z.row places) rows bytes) n d got
             → Ends (bordered z places tag rows bytes) n d got
         unfolding tag_test lives
-        tag_passed v h = passed_all (bytes_passed ∙ refusal_next unknown_tag [] (rw h) ∙ refusal_none)
+        tag_passed v h = passed_all (bytes_passed ∙ refusal_next UnknownTag [] (rw h) ∙ refusal_none)

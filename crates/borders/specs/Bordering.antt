@@ -4,7 +4,8 @@ use Rattle.std.proofs.Math.Option.{Option}
 use Rattle.measures.specs.declared.Size.{Size}
 use Rattle.measures.specs.Measures.{rows_with}
 use Rattle.records.specs.Records.{Records, records_of, lives}
-use Rattle.answers.specs.Answers.{Refusal, too_many_rows, bad_length, unknown_tag, unsound}
+use Rattle.answers.specs.declared.Refusal.{Refusal}
+use Rattle.answers.specs.declared.Refusal.TheVariants.{TooManyRows, BadLength, UnknownTag, Unsound}
 use Rattle.answers.specs.Tests.{Tests, refusal, unless, verdict_number}
 use Rattle.answers.specs.InOrder.{Ended, stopped, in_order}
 use Rattle.soundness.specs.Judged.{Judged}
@@ -15,10 +16,10 @@ use Rattle.writes.specs.Writing.{write_verdict, written}
 
 unfoldable pub border_tests : Records → List ℕ → ℕ → List ℕ → List ℕ → Tests
 border_tests z places tag rows bytes =
-    (leb 65 (length rows), too_many_rows)
-    ∷ (not (eqb (length places) (z.size.places * z.size.width)), bad_length)
-    ∷ (not (eqb (length bytes) (length rows * z.size.width)), bad_length)
-    ∷ (not (lives z tag), unknown_tag)
+    (leb 65 (length rows), TooManyRows)
+    ∷ (not (eqb (length places) (z.size.places * z.size.width)), BadLength)
+    ∷ (not (eqb (length bytes) (length rows * z.size.width)), BadLength)
+    ∷ (not (lives z tag), UnknownTag)
     ∷ []
 
 unfoldable pub border_verdict : Records → List ℕ → ℕ → List ℕ → List ℕ → Option Refusal
@@ -49,4 +50,4 @@ pub record Ends {S : Type 0} (e : Ended S) (number done : ℕ) (got : S) : Type 
 -- The promise of a border: on sound records as above; on others 20, no row done, and all as it was
 abbrev pub BorderEnds : Records → List ℕ → ℕ → List ℕ → List ℕ → ℕ → ℕ → Held → Type 0
 BorderEnds z places tag rows bytes number done got =
-    Judged z (Ends (bordered z places tag rows bytes) number done got) (Ends (stopped (held z.tree z.node z.row places) unsound) number done got)
+    Judged z (Ends (bordered z places tag rows bytes) number done got) (Ends (stopped (held z.tree z.node z.row places) Unsound) number done got)

@@ -4,7 +4,7 @@ use Rattle.std.proofs.Common.{sym, ◌∙◌, arith, eq-eqb, ne_eqb}
 use mathlib.Core.List.{List, [], ◌∷◌}
 use Rattle.std.proofs.Math.Option.{none, some}
 use Rattle.basics.specs.Decide.{not_yes, not_no}
-use Rattle.answers.specs.Answers.{bad_length}
+use Rattle.answers.specs.declared.Refusal.TheVariants.{BadLength}
 use Rattle.answers.specs.Tests.{Tests, refusal}
 use Rattle.answers.proofs.Laws.{refusal_here, refusal_next, refusal_none}
 use Rattle.rowbits.specs.Bits.{bit_of, Bytes}
@@ -33,28 +33,28 @@ module _ (f : ℕ → ℕ) (row : List ℕ) where
 -- a turn
 
 out_test : List ℕ → Tests
-out_test out = (not (eqb (length out) 128), bad_length) ∷ []
+out_test out = (not (eqb (length out) 128), BadLength) ∷ []
 
 module _ (turn : List ℕ → List ℕ) (row out : List ℕ) where
-  refuses : turn_verdict row out ≡ some bad_length → Turns turn row out 2 out
+  refuses : turn_verdict row out ≡ some BadLength → Turns turn row out 2 out
   refuses v = record { answers = rw v; leaves = rw v }
 
   pub row_refused : length row ≢ 128 → Turns turn row out 2 out
   unfolding turn_verdict out_test
-  row_refused e = refuses (refusal_here bad_length (out_test out) (not_yes (ne_eqb _ _ e)))
+  row_refused e = refuses (refusal_here BadLength (out_test out) (not_yes (ne_eqb _ _ e)))
 
   module _ (s : length row ≡ 128) where
     row_passed : turn_verdict row out ≡ refusal (out_test out)
     unfolding turn_verdict out_test
-    row_passed = refusal_next bad_length (out_test out) (not_no (eq-eqb _ _ s))
+    row_passed = refusal_next BadLength (out_test out) (not_no (eq-eqb _ _ s))
 
     pub out_refused : length out ≢ 128 → Turns turn row out 2 out
     unfolding out_test
-    out_refused e = refuses (row_passed ∙ refusal_here bad_length [] (not_yes (ne_eqb _ _ e)))
+    out_refused e = refuses (row_passed ∙ refusal_here BadLength [] (not_yes (ne_eqb _ _ e)))
 
     pub accepted : length out ≡ 128 → turn_verdict row out ≡ none
     unfolding out_test
-    accepted e = row_passed ∙ refusal_next bad_length [] (not_no (eq-eqb _ _ e)) ∙ refusal_none
+    accepted e = row_passed ∙ refusal_next BadLength [] (not_no (eq-eqb _ _ e)) ∙ refusal_none
 
     pub turns : length out ≡ 128 → (out' : List ℕ) → out' ≡ turn row → Turns turn row out 0 out'
     turns e out' t = record { answers = rw (accepted e); leaves = rw (accepted e) t }

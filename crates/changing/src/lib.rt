@@ -1,19 +1,35 @@
 // A command's call that changes the store, with its line: its number, the answer and a dash.
 #![tactic(auto)]
 
-ghost use Rattle.std.specs.Prelude.{◌+◌, ◌≤◌, length};
+ghost use Rattle.std.specs.Prelude.{◌≡◌, ◌+◌, ◌≤◌, length};
+ghost use Rattle.answers.specs.Results.{answer_of, left_of};
 ghost use Rattle.commands.specs.Format.{row_at};
+ghost use Rattle.laying.specs.Laid.{Lays};
 ghost use Rattle.model.specs.Call.{snapshot, write, delete, one};
-ghost use Rattle.progress.specs.Replying.{Room, Answered, Answers};
+ghost use Rattle.progress.specs.Replying.{onward, Room, Answered, Answers};
+ghost use Rattle.text.specs.Text.{line, dash};
 
+use answers::Refusal;
 use measures::Row;
 use progress::Progress;
+use trees::Tree;
+
+// The run behind a call, and its line.
+fn reply(run: Progress, returned: Result<Tree, Refusal>, out: &mut [u8]) -> Progress
+    requires { Room run 12 out.old }
+    ensures goes { result ≡ onward run (left_of run.tree returned) result.end }
+    ensures lays { Lays out.old run.end (line run.line (answer_of returned) dash) out.new result.end }
+{
+    let number = usize::from(answers::answer_of(&returned));
+    let end = text::plain_line(out, run.end, run.line, number);
+    progress::on(run, returned.unwrap_or(run.tree), end)
+}
 
 // A snapshot, and its line.
-pub fn snapshot<'a>(
+pub fn snapshot(
     run: Progress,
-    node: &'a [u8],
-    row: &'a [u16],
+    node: &[u8],
+    row: &[u16],
     source: u16,
     tag: u16,
     out: &mut [u8],
@@ -21,12 +37,8 @@ pub fn snapshot<'a>(
     requires { Room run 12 out.old }
     ensures { Answers run node.now row.now (one (snapshot source tag)) out.old result node.now row.now out.new }
 {
-    let tree = run.tree;
-    let s = snapshots::snapshot(run.size, tree, node, row, source, tag);
-    let answer = widen::byte(s.answer);
-    let next = s.tree;
-    let end = text::plain_line(out, run.end, run.line, answer);
-    progress::on(run, next, end)
+    let s = snapshots::snapshot(run.size, run.tree, node, row, source, tag);
+    reply(run, s, out)
 }
 
 // A delete, and its line.
@@ -34,12 +46,8 @@ pub fn delete(run: Progress, node: &mut [u8], row: &mut [u16], tag: u16, out: &m
     requires { Room run 12 out.old }
     ensures { Answers run node.old row.old (one (delete tag)) out.old result node.new row.new out.new }
 {
-    let tree = run.tree;
-    let d = deleting::delete(run.size, tree, node, row, tag);
-    let answer = widen::byte(d.answer);
-    let next = d.tree;
-    let end = text::plain_line(out, run.end, run.line, answer);
-    progress::on(run, next, end)
+    let d = deleting::delete(run.size, run.tree, node, row, tag);
+    reply(run, d, out)
 }
 
 // A write of a row by its number in the stream, with the bytes that stand behind it, and its line.
@@ -58,21 +66,9 @@ pub fn write(
     ensures { Answered run node.old row.old places.old (one (write tag r (row_at run.size.width stream.now at))) out.old
         result node.new row.new places.new out.new }
 {
-    let tree = run.tree;
     let width = run.size.width;
     let bytes = &stream[at + 5..at + 5 + width];
-    let w = writing::write(
-        run.size,
-        tree,
-        node,
-        row,
-        places,
-        tag,
-        Row(widen::pair(r)),
-        bytes,
-    );
-    let answer = widen::byte(w.answer);
-    let next = w.tree;
-    let end = text::plain_line(out, run.end, run.line, answer);
-    progress::on(run, next, end)
+    let r = Row(usize::from(r));
+    let w = writing::write(run.size, run.tree, node, row, places, tag, r, bytes);
+    reply(run, w, out)
 }

@@ -3,7 +3,8 @@ use Rattle.std.specs.Prelude.{Bool, true, false, cond, List, [], ◌∷◌, ℕ,
 use Rattle.std.proofs.Math.Option.{Option, none, some}
 use Rattle.basics.specs.Decide.{at}
 use Rattle.laying.specs.Laid.{pair_at}
-use Rattle.answers.specs.Answers.{Refusal, unknown_command, cut_command}
+use Rattle.answers.specs.declared.Refusal.{Refusal}
+use Rattle.answers.specs.declared.Refusal.TheVariants.{UnknownCommand, CutCommand}
 use Rattle.answers.specs.Tests.{verdict_number}
 use Rattle.model.specs.Call.{snapshot, read, write, delete, count, Call, one}
 use Rattle.commands.specs.declared.Command.{Command}
@@ -32,8 +33,8 @@ command_of s p kind =
 -- the refusal with which a stream ends there: an unknown kind, or a command that is cut
 abbrev pub refusal_of : Command → Option Refusal
 refusal_of Over = none
-refusal_of Unknown = some unknown_command
-refusal_of Cut = some cut_command
+refusal_of Unknown = some UnknownCommand
+refusal_of Cut = some CutCommand
 refusal_of (Snapshot source tag) = none
 refusal_of (Read tag row) = none
 refusal_of (Write tag row) = none

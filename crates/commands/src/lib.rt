@@ -19,6 +19,7 @@ pub enum Command {
 }
 
 // A command, the position behind it, and the number of the refusal with which the stream ends there, else 0.
+// The number stands beside the command, from which it follows: the definition `stand` in specs/Format.antt has it so.
 #[derive(Clone, Copy)]
 pub struct Step {
     pub command: Command,
@@ -30,37 +31,23 @@ pub struct Step {
 pub fn changes(command: Command) -> bool
     ensures { result ≡ changes command }
 {
-    match command {
-        Command::Over => false,
-        Command::Unknown => false,
-        Command::Cut => false,
-        Command::Snapshot { .. } => true,
-        Command::Read { .. } => false,
-        Command::Write { .. } => true,
-        Command::Delete { .. } => true,
-        Command::Count => false,
-    }
+    matches!(
+        command,
+        Command::Snapshot { .. } | Command::Write { .. } | Command::Delete { .. }
+    )
 }
 
-// How many bytes a command has, where a row has `width`; 0 if the kind is unknown.
+// How many bytes a command has, where a row has `width`; 0 if the kind is unknown. The kind is the stream's byte, which may have any value.
+#[tactic(auto, unfolding(crate::specs::Format::size_of))]
 pub fn size_of(width: usize, kind: u8) -> usize
     requires { width ≤ 1024 }
     ensures { result ≡ size_of width kind }
 {
-    if kind == 1 {
-        return 5;
+    match kind {
+        1 | 2 => 5,
+        3 => 5 + width,
+        4 => 3,
+        5 => 1,
+        _ => 0,
     }
-    if kind == 2 {
-        return 5;
-    }
-    if kind == 3 {
-        return 5 + width;
-    }
-    if kind == 4 {
-        return 3;
-    }
-    if kind == 5 {
-        return 1;
-    }
-    0
 }

@@ -1,37 +1,35 @@
 // The call that counts: places in use and snapshots alive. It changes nothing.
 #![tactic(auto)]
 
+ghost use Rattle.answers.specs.Results.{answer_of};
 ghost use Rattle.records.specs.Records.{records_of};
+ghost use Rattle.counting.specs.Counted.{used_of, snapshots_of};
 ghost use Rattle.counting.specs.Counting.{CountEnds};
 
+use answers::Refusal;
 use measures::Size;
-use trees::Tree;
+use trees::{Entries, Tree};
 
-// An answer, with places in use and snapshots alive.
-#[derive(Clone, Copy)]
+// Places in use and snapshots alive.
+#[derive(Clone, Copy, Debug, PartialEq, Eq)]
 pub struct Counts {
-    pub answer: u8,
     pub used: usize,
     pub snapshots: usize,
 }
 
 // Refusal: 20.
-pub fn count<'a>(size: Size, tree: Tree, node: &'a [u8], row: &'a [u16]) -> Counts
-    ensures { CountEnds (records_of size tree node.now row.now) result.answer result.used result.snapshots }
+pub fn count(size: Size, tree: Tree, node: &[u8], row: &[u16]) -> Result<Counts, Refusal>
+    ensures { CountEnds (records_of size tree node.now row.now) (answer_of result) (used_of result) (snapshots_of result) }
 {
-    if !soundness::sound(size, &tree.state, &tree.tag, &tree.parent, node, row) {
-        return Counts {
-            answer: 20,
-            used: 0,
-            snapshots: 0,
-        };
+    if !soundness::sound(size, &tree, node, row) {
+        return Err(Refusal::Unsound);
     }
-    let rows = size.rows;
-    let used = reading::used(rows, node, row);
-    let snapshots = tree::snapshots(&tree.state, &tree.tag, &tree.parent);
-    Counts {
-        answer: 0,
-        used,
-        snapshots,
-    }
+    let table = Entries {
+        rows: size.rows,
+        node,
+        row,
+    };
+    let used = reading::used(&table);
+    let snapshots = tree::snapshots(&tree);
+    Ok(Counts { used, snapshots })
 }

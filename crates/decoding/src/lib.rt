@@ -8,31 +8,29 @@ ghost use Rattle.commands.specs.Format.{command_of, step_at, Reading};
 use commands::{Command, Step};
 
 // The command of a known kind that lies whole at p.
+#[tactic(auto, using(commands::specs::Laws::two_operands, commands::specs::Laws::one_operand), unfolding(commands::specs::Format::command_of))]
 fn command_of(stream: &[u8], p: usize, width: usize) -> Command
     requires { Reading width stream.now p }
     ensures { result ≡ command_of stream.now p (at stream.now p) }
 {
-    let kind = stream[p];
-    if kind == 1 {
-        let source = laying::number(stream, p + 1);
-        let tag = laying::number(stream, p + 3);
-        return Command::Snapshot { source, tag };
+    match stream[p] {
+        1 => Command::Snapshot {
+            source: laying::number(stream, p + 1),
+            tag: laying::number(stream, p + 3),
+        },
+        2 => Command::Read {
+            tag: laying::number(stream, p + 1),
+            row: laying::number(stream, p + 3),
+        },
+        3 => Command::Write {
+            tag: laying::number(stream, p + 1),
+            row: laying::number(stream, p + 3),
+        },
+        4 => Command::Delete {
+            tag: laying::number(stream, p + 1),
+        },
+        _ => Command::Count,
     }
-    if kind == 2 {
-        let tag = laying::number(stream, p + 1);
-        let row = laying::number(stream, p + 3);
-        return Command::Read { tag, row };
-    }
-    if kind == 3 {
-        let tag = laying::number(stream, p + 1);
-        let row = laying::number(stream, p + 3);
-        return Command::Write { tag, row };
-    }
-    if kind == 4 {
-        let tag = laying::number(stream, p + 1);
-        return Command::Delete { tag };
-    }
-    Command::Count
 }
 
 // The command at p, and where the next one starts. An unknown kind goes before a stream that ends inside a command.

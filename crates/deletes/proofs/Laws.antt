@@ -7,7 +7,7 @@ use Rattle.trees.specs.declared.Tree.{Tree}
 use Rattle.records.specs.Records.{Records, table, lives}
 use Rattle.trees.specs.Trees.{InUse, version}
 use Rattle.records.specs.Sound.{Sound}
-use Rattle.answers.specs.Answers.{origin_tag, unknown_tag}
+use Rattle.answers.specs.declared.Refusal.TheVariants.{OriginTag, UnknownTag}
 use Rattle.answers.proofs.Laws.{refusal_here, refusal_next, refusal_none}
 use Rattle.tree.specs.Nodes.{version_alive}
 use Rattle.nodes.specs.Nodes.{first_child}
@@ -49,17 +49,17 @@ left_same a b c = λ i. left (a i) (b i) (c i)
 -- The tests in a row
 
 module _ (z : Records) (tag : ℕ) where
-  pub origin_refused : tag ≡ 0 → delete_verdict z tag ≡ some origin_tag
+  pub origin_refused : tag ≡ 0 → delete_verdict z tag ≡ some OriginTag
   unfolding delete_verdict delete_tests
-  origin_refused e = refusal_here origin_tag _ (eq-eqb tag 0 e)
+  origin_refused e = refusal_here OriginTag _ (eq-eqb tag 0 e)
 
-  pub tag_refused : tag ≢ 0 → version z.tree tag ≡ none → delete_verdict z tag ≡ some unknown_tag
+  pub tag_refused : tag ≢ 0 → version z.tree tag ≡ none → delete_verdict z tag ≡ some UnknownTag
   unfolding delete_verdict delete_tests lives
-  tag_refused n v = refusal_next origin_tag _ (ne_eqb tag 0 n) ∙ refusal_here unknown_tag _ (rw v)
+  tag_refused n v = refusal_next OriginTag _ (ne_eqb tag 0 n) ∙ refusal_here UnknownTag _ (rw v)
 
   pub accepted : tag ≢ 0 → (v : ℕ) → version z.tree tag ≡ some v → delete_verdict z tag ≡ none
   unfolding delete_verdict delete_tests lives
-  accepted n v h = refusal_next origin_tag _ (ne_eqb tag 0 n) ∙ refusal_next unknown_tag _ (rw h) ∙ refusal_none
+  accepted n v h = refusal_next OriginTag _ (ne_eqb tag 0 n) ∙ refusal_next UnknownTag _ (rw h) ∙ refusal_none
 
   pub deleted_version : (v : ℕ) → version z.tree tag ≡ some v → deleted z tag ≡ deleted_at z v
   unfolding deleted

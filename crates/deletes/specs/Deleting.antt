@@ -5,14 +5,16 @@ use Rattle.trees.specs.declared.Tree.{Tree}
 use Rattle.records.specs.Records.{Records, table, lives}
 use Rattle.trees.specs.Trees.{Snapshot, version}
 use Rattle.records.specs.Sound.{Sound}
-use Rattle.answers.specs.Answers.{Refusal, origin_tag, unknown_tag, unsound, number}
+use Rattle.answers.specs.declared.Refusal.{Refusal}
+use Rattle.answers.specs.declared.Refusal.TheVariants.{OriginTag, UnknownTag, Unsound}
+use Rattle.answers.specs.Answers.{number}
 use Rattle.answers.specs.Tests.{Tests, refusal}
 use Rattle.soundness.specs.Judged.{Judged, Leaves}
 use Rattle.removal.specs.Removal.{ghosted, freed_list}
 use Rattle.pruning.specs.Pruning.{pruned_tree, pruned_node, settled_tree, settled_node}
 
 unfoldable pub delete_tests : Records → ℕ → Tests
-delete_tests z tag = (eqb tag 0, origin_tag) ∷ (not (lives z tag), unknown_tag) ∷ []
+delete_tests z tag = (eqb tag 0, OriginTag) ∷ (not (lives z tag), UnknownTag) ∷ []
 
 unfoldable pub delete_verdict : Records → ℕ → Option Refusal
 delete_verdict z tag = refusal (delete_tests z tag)
@@ -50,4 +52,4 @@ pub record Deletable (z : Records) (v : ℕ) : Type 0 where
 abbrev pub DeleteEnds : Records → ℕ → ℕ → Left → Type 0
 DeleteEnds z tag answer got =
     Judged z (Leaves (delete_verdict z tag) (left z.tree z.node z.row) (deleted z tag) answer got)
-    ((answer ≡ number unsound) × (got ≡ left z.tree z.node z.row))
+    ((answer ≡ number Unsound) × (got ≡ left z.tree z.node z.row))

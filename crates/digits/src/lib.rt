@@ -1,19 +1,16 @@
 // Numbers in base ten and bytes in base sixteen, laid as text. Each function returns the position behind what it laid.
 #![tactic(auto)]
 
-ghost use Rattle.std.specs.Prelude.{◌≡◌, ◌+◌, ◌*◌, ◌/◌, ◌%◌, ◌≤◌, ◌<◌, length};
+ghost use Rattle.std.specs.Prelude.{◌≡◌, ◌+◌, ◌*◌, ◌≤◌, ◌<◌, length};
 ghost use Rattle.laying.specs.Laid.{Lays};
 ghost use Rattle.digits.specs.Digits.{digit, place, decimal, hex};
 
 // The code of a digit below 16.
-fn digit(d: usize) -> u8
+fn digit(d: u8) -> u8
     requires { d < 16 }
     ensures { result ≡ digit d }
 {
-    if d < 10 {
-        return (48 + d) as u8;
-    }
-    (87 + d) as u8
+    if d < 10 { b'0' + d } else { b'a' + (d - 10) }
 }
 
 // The digit of n that stands for p, if n has it.
@@ -24,7 +21,7 @@ fn place(out: &mut [u8], at: usize, n: usize, p: usize) -> usize
     if n < p {
         return at;
     }
-    laying::put(out, at, digit(n / p % 10))
+    laying::put(out, at, digit((n / p % 10) as u8))
 }
 
 // A number below 10,000.
@@ -35,22 +32,7 @@ pub fn decimal(out: &mut [u8], at: usize, n: usize) -> usize
     let a = place(out, at, n, 1000);
     let b = place(out, a, n, 100);
     let c = place(out, b, n, 10);
-    laying::put(out, c, digit(n % 10))
-}
-
-// The two digits of a byte.
-fn high(x: u8) -> u8
-    ensures { result ≡ digit (x / 16) }
-{
-    let w = x as usize;
-    digit(w / 16)
-}
-
-fn low(x: u8) -> u8
-    ensures { result ≡ digit (x % 16) }
-{
-    let w = x as usize;
-    digit(w % 16)
+    laying::put(out, c, digit((n % 10) as u8))
 }
 
 // Two digits for each byte.
@@ -59,10 +41,8 @@ pub fn hex(out: &mut [u8], at: usize, bytes: &[u8]) -> usize
     ensures { Lays out.old at (hex bytes.now) out.new result }
 {
     let mut to = at;
-    let mut i: usize = 0;
-    while i < bytes.len() {
-        to = laying::two(out, to, high(bytes[i]), low(bytes[i]));
-        i += 1;
+    for byte in bytes {
+        to = laying::two(out, to, digit(byte / 16), digit(byte % 16));
     }
     to
 }

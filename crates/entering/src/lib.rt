@@ -2,41 +2,30 @@
 #![tactic(auto)]
 
 ghost use Rattle.std.specs.Prelude.{◌+◌, ◌<◌, length};
-ghost use Rattle.trees.specs.Trees.{tree_of, table_of};
+ghost use Rattle.trees.specs.Trees.{entries_of};
 ghost use Rattle.trees.specs.Rules.{Excepting};
 ghost use Rattle.table.specs.Rules.{Entering, Verdict, EntryFits};
 
 use measures::Row;
+use trees::{Entries, Tree};
 
 // Rule 6 at one entry, against those before it. An entry that meets it leaves its mark.
-fn enter<'a>(
-    state: &'a [u8; 128],
-    tag: &'a [u16; 128],
-    parent: &'a [u8; 128],
-    rows: usize,
-    node: &'a [u8],
-    row: &'a [u16],
-    i: usize,
-    marks: &mut [u8],
-) -> bool
-    requires { (i < length node.now) × Entering (table_of rows node.now row.now) marks.old i }
-    ensures { Verdict (EntryFits (tree_of state.now tag.now parent.now) (table_of rows node.now row.now) i) (table_of rows node.now row.now) (i + 1) marks.new result }
+fn enter(tree: &Tree, table: &Entries, i: usize, marks: &mut [u8]) -> bool
+    requires { (i < length table.now.node.now) × Entering (entries_of table.now) marks.old i }
+    ensures { Verdict (EntryFits tree.now (entries_of table.now) i) (entries_of table.now) (i + 1) marks.new result }
 {
-    let n = widen::byte(node[i]);
+    let n = usize::from(table.node[i]);
     if n == 0 {
-        if row[i] == 0 {
-            return true;
-        }
-        return false;
+        return table.row[i] == 0;
     }
     if n >= 128 {
         return false;
     }
-    if state[n] == 0 {
+    if tree.state[n] == 0 {
         return false;
     }
-    let r = Row(widen::pair(row[i]));
-    if !measures::has_row(rows, r) {
+    let r = Row(usize::from(table.row[i]));
+    if !measures::has_row(table.rows, r) {
         return false;
     }
     let k = table::slot(n, r);
@@ -48,24 +37,14 @@ fn enter<'a>(
 }
 
 // Rule 6.
-pub fn entries<'a>(
-    state: &'a [u8; 128],
-    tag: &'a [u16; 128],
-    parent: &'a [u8; 128],
-    rows: usize,
-    node: &'a [u8],
-    row: &'a [u16],
-    marks: &mut [u8],
-) -> bool
-    requires { Entering (table_of rows node.now row.now) marks.old 0 }
-    ensures { Verdict (Excepting (tree_of state.now tag.now parent.now) (table_of rows node.now row.now)) (table_of rows node.now row.now) (length node.now) marks.new result }
+pub fn entries(tree: &Tree, table: &Entries, marks: &mut [u8]) -> bool
+    requires { Entering (entries_of table.now) marks.old 0 }
+    ensures { Verdict (Excepting tree.now (entries_of table.now)) (entries_of table.now) (length table.now.node.now) marks.new result }
 {
-    let mut i: usize = 0;
-    while i < node.len() {
-        if !enter(state, tag, parent, rows, node, row, i, marks) {
+    for i in 0..table.node.len() {
+        if !enter(tree, table, i, marks) {
             return false;
         }
-        i += 1;
     }
     true
 }

@@ -11,12 +11,10 @@ fn gathered(row: &[u8], order: &[u16], j: usize) -> u8
     requires { (length row.now ≡ 128) × Ordered order.now × (j < 128) }
     ensures { result ≡ at (to_cable row.now) j }
 {
-    let mut byte: u8 = 0;
-    let mut k: usize = 0;
-    while k < 8 {
+    let mut byte = 0;
+    for k in 0..8 {
         let hook = hooks::hook(order, 8 * j + k);
         byte = byte * 2 + rowbits::bit(row, hook);
-        k += 1;
     }
     byte
 }
@@ -26,9 +24,7 @@ pub fn gather(row: &[u8], order: &[u16], out: &mut [u8])
     requires { (length row.now ≡ 128) × Ordered order.now × (length out.old ≡ 128) }
     ensures { out.new ≡ to_cable row.now }
 {
-    let mut j: usize = 0;
-    while j < 128 {
-        out[j] = gathered(row, order, j);
-        j += 1;
+    for (j, byte) in out.iter_mut().enumerate() {
+        *byte = gathered(row, order, j);
     }
 }

@@ -5,7 +5,6 @@ ghost use Rattle.std.specs.Prelude.{◌≡◌, ◌<◌};
 ghost use Rattle.trees.specs.Trees.{nodes_used};
 ghost use Rattle.growing.specs.Growing.{tree_at};
 
-use tree::Found;
 use trees::Tree;
 
 // The tree with a new node for a snapshot of the version at node v.
@@ -13,13 +12,12 @@ pub fn with_snapshot(tree: Tree, v: usize, tag: u16) -> Tree
     requires { (v < 128) × (nodes_used tree < 128) }
     ensures { result ≡ tree_at tree v tag }
 {
-    let m = nodes::empty_node(&tree.state, &tree.tag, &tree.parent);
+    let m = nodes::empty_node(&tree);
     let next = nodes::grown(tree, m, tag, v);
     if v != 0 {
         return next;
     }
-    let found = nodes::child(&tree.state, &tree.tag, &tree.parent, 0);
-    let Found::At(c) = found else {
+    let Some(c) = nodes::child(&tree, 0) else {
         return next;
     };
     nodes::hung(next, c, m)

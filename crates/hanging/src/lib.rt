@@ -3,47 +3,29 @@
 
 ghost use Rattle.std.specs.Prelude.{◌≢◌};
 ghost use Rattle.basics.specs.Decide.{Decides};
-ghost use Rattle.trees.specs.Trees.{tree_of, InUse, up};
+ghost use Rattle.trees.specs.Trees.{InUse, up};
 ghost use Rattle.tree.specs.Rules.{Parents};
-ghost use Rattle.listing.specs.Listed.{Listed};
+
+use listing::NodesInUse;
+use trees::Tree;
 
 // Is the parent of a node in use in use?
-fn parent_used<'a>(
-    state: &'a [u8; 128],
-    tag: &'a [u16; 128],
-    parent: &'a [u8; 128],
-    n: usize,
-) -> bool
-    requires { InUse (tree_of state.now tag.now parent.now) n }
-    ensures { Decides result (InUse (tree_of state.now tag.now parent.now) (up (tree_of state.now tag.now parent.now) n)) }
+fn parent_used(tree: &Tree, n: usize) -> bool
+    requires { InUse tree.now n }
+    ensures { Decides result (InUse tree.now (up tree.now n)) }
 {
-    let p = widen::byte(parent[n]);
-    if p >= 128 {
-        return false;
-    }
-    if state[p] == 0 {
-        return false;
-    }
-    true
+    let p = usize::from(tree.parent[n]);
+    p < 128 && tree.state[p] != 0
 }
 
 // Rule 3's first half, with a list of the nodes in use.
-pub fn parents<'a>(
-    state: &'a [u8; 128],
-    tag: &'a [u16; 128],
-    parent: &'a [u8; 128],
-    used: &'a [u8],
-) -> bool
-    requires { Listed state.now used.now }
-    ensures { Decides result (Parents (tree_of state.now tag.now parent.now)) }
+pub fn parents(nodes: &NodesInUse) -> bool
+    ensures { Decides result (Parents nodes.now.tree.now) }
 {
-    let mut j: usize = 0;
-    while j < used.len() {
-        let n = widen::byte(used[j]);
-        if !parent_used(state, tag, parent, n) {
+    for n in nodes.used {
+        if !parent_used(nodes.tree, usize::from(*n)) {
             return false;
         }
-        j += 1;
     }
     true
 }

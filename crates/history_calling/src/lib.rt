@@ -1,148 +1,200 @@
-// A drawn call, made on the store.
+// A store in memory of the test's own, and the calls that are made on it.
 #![tactic(auto)]
 
-use history_plans::{BORDER, COUNT, Call, DELETE, SNAPSHOT, WRITE};
+ghost use Rattle.std.specs.Prelude.{◌≤◌};
+
+use answers::Refusal;
+use counting::Counts;
+use history_plans::{Border, Call, Outcome, Write};
 use measures::{Row, Size};
+use queries::Lent;
 use trees::Tree;
 
-// What a call answered, how many rows a border did, and the tree that it left.
-#[derive(Clone, Copy)]
-pub struct Done {
-    pub answer: u8,
-    pub done: usize,
+// The most entries and bytes of places that there is room for.
+const ENTRIES: usize = 1024;
+
+const BYTES: usize = 4096;
+
+// The measures, the tree, and what is lent: as many entries of the table and bytes of places as the measures call for.
+#[derive(Clone, Copy, PartialEq, Eq)]
+pub struct Store {
+    pub size: Size,
     pub tree: Tree,
+    node: [u8; ENTRIES],
+    row: [u16; ENTRIES],
+    places: [u8; BYTES],
 }
 
-fn ended(answer: u8, tree: Tree) -> Done {
-    Done {
-        answer,
-        done: 0,
-        tree,
+// The memory, as it is lent.
+impl Store {
+    // Memory for a store, not zero at first. What does not fit, here or in the full copy, is not run.
+    pub fn lent(size: Size) -> Option<Store> {
+        let store = Store {
+            size,
+            tree: Tree {
+                state: [0; 128],
+                tag: [0; 128],
+                parent: [0; 128],
+            },
+            node: [255; ENTRIES],
+            row: [255; ENTRIES],
+            places: [255; BYTES],
+        };
+        store.fits().then_some(store)
+    }
+
+    fn fits(&self) -> bool {
+        self.size.rows <= 8
+            && self.size.width <= 8
+            && self.size.places.saturating_sub(self.size.rows) <= ENTRIES
+            && self.size.places.saturating_mul(self.size.width) <= BYTES
+    }
+
+    fn entries(&self) -> usize
+        ensures { result ≤ ENTRIES }
+    {
+        let own = self.size.places.saturating_sub(self.size.rows);
+        own.min(ENTRIES)
+    }
+
+    fn bytes(&self) -> usize
+        ensures { result ≤ BYTES }
+    {
+        let all = self.size.places.saturating_mul(self.size.width);
+        all.min(BYTES)
+    }
+
+    // The node of each entry.
+    pub fn node(&self) -> &[u8] {
+        &self.node[..self.entries()]
+    }
+
+    // The row of each entry.
+    pub fn row(&self) -> &[u16] {
+        &self.row[..self.entries()]
+    }
+
+    fn places(&self) -> &[u8] {
+        &self.places[..self.bytes()]
     }
 }
 
-fn snapshot<'a>(size: Size, tree: Tree, node: &'a [u8], row: &'a [u16], call: Call) -> Done {
-    let s = snapshots::snapshot(size, tree, node, row, call.tag, call.new);
-    ended(s.answer, s.tree)
-}
-
-// The first n bytes, or all where there are fewer.
-fn front(bytes: &[u8], n: usize) -> &[u8] {
-    if n <= bytes.len() {
-        return &bytes[0..n];
+// The calls. The parts of a store that is behind a reference cannot be lent one beside the other: so what a call may write is
+// lent of a copy, which then takes the store's place.
+impl Store {
+    // What a call made of this store stands in its place, with the tree that the call left.
+    fn keep(mut self, left: Result<Tree, Refusal>, place: &mut Store) -> Result<(), Refusal> {
+        if let Ok(tree) = left {
+            self.tree = tree;
+        }
+        *place = self;
+        left.map(|_| ())
     }
-    bytes
-}
 
-fn write(
-    size: Size,
-    tree: Tree,
-    node: &mut [u8],
-    row: &mut [u16],
-    places: &mut [u8],
-    call: Call,
-) -> Done {
-    let all = call.bytes;
-    let bytes = front(&all, call.length);
-    let w = writing::write(
-        size,
-        tree,
-        node,
-        row,
-        places,
-        call.tag,
-        Row(call.row),
-        bytes,
-    );
-    ended(w.answer, w.tree)
-}
-
-// The row numbers of a border, with zeros behind.
-fn row_numbers(call: Call) -> [u16; 65] {
-    let mut rows = [0u16; 65];
-    rows[0] = (call.row % 65536) as u16;
-    rows[1] = (call.second % 65536) as u16;
-    rows
-}
-
-// The first n numbers, or all where there are fewer.
-fn front16(rows: &[u16], n: usize) -> &[u16] {
-    if n <= rows.len() {
-        return &rows[0..n];
+    pub fn open(&mut self) -> Result<(), Refusal> {
+        let mut store = *self;
+        let entries = store.entries();
+        let bytes = store.bytes();
+        let opened = opening::open(
+            store.size,
+            &mut store.places[..bytes],
+            &mut store.node[..entries],
+            &mut store.row[..entries],
+        );
+        store.keep(opened, self)
     }
-    rows
-}
 
-fn border(
-    size: Size,
-    tree: Tree,
-    node: &mut [u8],
-    row: &mut [u16],
-    places: &mut [u8],
-    call: Call,
-) -> Done {
-    let numbers = row_numbers(call);
-    let all = call.bytes;
-    let rows = front16(&numbers, call.count);
-    let bytes = front(&all, call.length);
-    let b = bordering::border(size, tree, node, row, places, call.tag, rows, bytes);
-    let next = b.tree;
-    Done {
-        answer: b.answer,
-        done: b.done,
-        tree: next,
+    pub fn count(&self) -> Result<Counts, Refusal> {
+        counting::count(self.size, self.tree, self.node(), self.row())
     }
-}
 
-fn delete(size: Size, tree: Tree, node: &mut [u8], row: &mut [u16], call: Call) -> Done {
-    let d = deleting::delete(size, tree, node, row, call.tag);
-    ended(d.answer, d.tree)
-}
+    pub fn read(&self, tag: u16, row: usize) -> Result<Lent<'_>, Refusal> {
+        queries::read(
+            self.size,
+            self.tree,
+            self.node(),
+            self.row(),
+            self.places(),
+            tag,
+            Row(row),
+        )
+    }
 
-fn count<'a>(size: Size, tree: Tree, node: &'a [u8], row: &'a [u16]) -> Done {
-    let c = counting::count(size, tree, node, row);
-    ended(c.answer, tree)
-}
+    fn snapshot(&mut self, source: u16, new: u16) -> Result<(), Refusal> {
+        let snapped = snapshots::snapshot(
+            self.size,
+            self.tree,
+            self.node(),
+            self.row(),
+            source,
+            new,
+        );
+        self.tree = snapped?;
+        Ok(())
+    }
 
-fn read<'a>(
-    size: Size,
-    tree: Tree,
-    node: &'a [u8],
-    row: &'a [u16],
-    places: &'a [u8],
-    call: Call,
-) -> Done {
-    let mut answer: u8 = 0;
-    let mut sharers: usize = 0;
-    queries::read(
-        size,
-        tree,
-        node,
-        row,
-        places,
-        call.tag,
-        Row(call.row),
-        &mut answer,
-        &mut sharers,
-    );
-    ended(answer, tree)
-}
+    fn write(&mut self, write: &Write) -> Result<(), Refusal> {
+        let mut store = *self;
+        let entries = store.entries();
+        let bytes = store.bytes();
+        let written = writing::write(
+            store.size,
+            store.tree,
+            &mut store.node[..entries],
+            &mut store.row[..entries],
+            &mut store.places[..bytes],
+            write.tag,
+            Row(write.row),
+            write.bytes.as_slice(),
+        );
+        store.keep(written, self)
+    }
 
-pub fn make(
-    size: Size,
-    tree: Tree,
-    node: &mut [u8],
-    row: &mut [u16],
-    places: &mut [u8],
-    call: Call,
-) -> Done {
-    let kind = call.kind;
-    match kind {
-        SNAPSHOT => snapshot(size, tree, node, row, call),
-        WRITE => write(size, tree, node, row, places, call),
-        DELETE => delete(size, tree, node, row, call),
-        COUNT => count(size, tree, node, row),
-        BORDER => border(size, tree, node, row, places, call),
-        _ => read(size, tree, node, row, places, call),
+    fn border(&mut self, border: &Border) -> Outcome {
+        let mut store = *self;
+        let entries = store.entries();
+        let bytes = store.bytes();
+        let bordered = bordering::border(
+            store.size,
+            store.tree,
+            &mut store.node[..entries],
+            &mut store.row[..entries],
+            &mut store.places[..bytes],
+            border.tag,
+            border.rows(),
+            border.bytes.as_slice(),
+        );
+        store.tree = bordered.tree;
+        *self = store;
+        Outcome {
+            answer: bordered.refusal.map_or(Ok(()), Err),
+            done: bordered.done,
+        }
+    }
+
+    fn delete(&mut self, tag: u16) -> Result<(), Refusal> {
+        let mut store = *self;
+        let entries = store.entries();
+        let removed = deleting::delete(
+            store.size,
+            store.tree,
+            &mut store.node[..entries],
+            &mut store.row[..entries],
+            tag,
+        );
+        store.keep(removed, self)
+    }
+
+    // Makes a call.
+    pub fn make(&mut self, call: &Call) -> Outcome {
+        let answer = match call {
+            Call::Snapshot { source, new } => self.snapshot(*source, *new),
+            Call::Write(write) => self.write(write),
+            Call::Delete { tag } => self.delete(*tag),
+            Call::Count => self.count().map(|_| ()),
+            Call::Read { tag, row } => self.read(*tag, *row).map(|_| ()),
+            Call::Border(border) => return self.border(border),
+        };
+        Outcome { answer, done: 0 }
     }
 }

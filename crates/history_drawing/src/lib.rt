@@ -1,50 +1,160 @@
 // The dice, and the calls that are drawn with them.
 #![tactic(auto)]
 
-use history_numbers::{above, get, product, sum};
-use history_plans::{BORDER, COUNT, Call, DELETE, Plan, READ, SNAPSHOT, WRITE};
+ghost use Rattle.std.specs.Prelude.{◌≢◌, ◌<◌};
 
-// The state that a seed starts from, another one for each number of places.
-pub fn start(seed: usize, places: usize) -> usize {
-    (seed % 65536) * 1009 + (places % 65536) * 7919 + 1
+use history_copies::{Copies, WIDTH};
+use history_plans::{Border, Call, Lent, Plan, Write};
+
+// Lehmer's generator.
+#[derive(Clone, Copy)]
+pub struct Dice {
+    state: usize,
 }
 
-// A number below n, by Lehmer's generator: multiply by 48271, modulo the prime 2^31 - 1.
-fn draw(dice: &mut usize, n: usize) -> usize {
-    let old = *dice;
-    let next = (old % 2147483647) * 48271 % 2147483647;
-    *dice = next;
-    if n == 0 {
-        return 0;
+impl Dice {
+    // The dice that a seed starts with, others for each number of places.
+    pub fn seeded(seed: usize, places: usize) -> Dice {
+        Dice {
+            state: (seed % 65536) * 1009 + (places % 65536) * 7919 + 1,
+        }
     }
-    next % n
-}
 
-// A drawn byte, or the one that stands in the full copy.
-fn some_byte(copies: &[usize], at: usize, equal: bool, dice: &mut usize) -> usize {
-    if equal {
-        return get(copies, at);
+    // A number below n, or 0: the state is multiplied by 48271, modulo the prime 2^31 - 1.
+    fn draw(&mut self, n: usize) -> usize
+        ensures { n ≢ 0 → result < n }
+    {
+        self.state = (self.state % 2147483647) * 48271 % 2147483647;
+        if n == 0 { 0 } else { self.state % n }
     }
-    draw(dice, 256)
-}
 
-// Drawn bytes, from an index on; one time in five those that the version's row has.
-fn some_bytes(
-    copies: &[usize],
-    tag: u16,
-    r: usize,
-    bytes: &mut [u8],
-    from: usize,
-    dice: &mut usize,
-) {
-    let equal = draw(dice, 5) == 0;
-    let slot = history_slots::slot_of(copies, tag);
-    let mut i = from;
-    while i < bytes.len() {
-        let at = history_slots::byte_at(slot, r, above(i, from));
-        let x = some_byte(copies, at, equal, dice);
-        bytes[i] = (x % 256) as u8;
-        i += 1;
+    // Comes true one time in n.
+    fn one_in(&mut self, n: usize) -> bool {
+        self.draw(n) == 0
+    }
+
+    fn byte(&mut self) -> u8 {
+        self.draw(256) as u8
+    }
+
+    // Draws bytes; one time in five those that the version's row has.
+    fn fill(&mut self, bytes: &mut [u8], copies: &Copies, tag: u16, row: usize) {
+        if self.one_in(5) {
+            let held = copies.bytes_near(tag, row);
+            for (i, byte) in bytes.iter_mut().enumerate() {
+                *byte = held[i % WIDTH];
+            }
+        } else {
+            for byte in bytes {
+                *byte = self.byte();
+            }
+        }
+    }
+
+    // A living version's tag three times in four; else any, two unknown ones among them.
+    fn tag(&mut self, plan: &Plan, copies: &Copies) -> u16 {
+        if self.one_in(4) {
+            return tag_number(self.draw(plan.tags.saturating_add(2)));
+        }
+        copies.living_tag(self.draw(copies.snapshots() + 1))
+    }
+
+    // Where many snapshots are taken, they are mostly taken of the newest, so that the tree grows deep.
+    fn source(&mut self, plan: &Plan, copies: &Copies) -> u16 {
+        if plan.share > 8 && !self.one_in(8) {
+            return newest_tag(copies);
+        }
+        self.tag(plan, copies)
+    }
+
+    // A row; now and then one past the end.
+    fn row(&mut self, plan: &Plan) -> usize {
+        if self.one_in(12) {
+            return plan.size.rows;
+        }
+        self.draw(plan.size.rows)
+    }
+
+    // The right length; now and then another.
+    fn length(&mut self, right: usize) -> usize {
+        if self.one_in(12) {
+            return self.draw(16);
+        }
+        right
+    }
+
+    // How many rows a border has: mostly two; 65 are too many.
+    fn count(&mut self) -> usize {
+        match self.draw(12) {
+            0 => 0,
+            1 => 1,
+            2 => 65,
+            _ => 2,
+        }
+    }
+
+    // A snapshot; its new tag may be 0 or alive.
+    fn snapshot(&mut self, plan: &Plan, copies: &Copies) -> Call {
+        let source = self.source(plan, copies);
+        let new = tag_number(self.draw(plan.tags));
+        Call::Snapshot { source, new }
+    }
+
+    fn write(&mut self, plan: &Plan, copies: &Copies) -> Call {
+        let tag = self.tag(plan, copies);
+        let row = self.row(plan);
+        let length = self.length(plan.size.width);
+        let mut bytes = [0; 16];
+        self.fill(&mut bytes, copies, tag, row);
+        Call::Write(Write {
+            tag,
+            row,
+            bytes: Lent { bytes, length },
+        })
+    }
+
+    // A border; its two rows may be one, and each has bytes drawn as a write's. For 65 rows too few bytes are lent.
+    fn border(&mut self, plan: &Plan, copies: &Copies) -> Call {
+        let width = plan.size.width;
+        let tag = self.tag(plan, copies);
+        let first = self.row(plan);
+        let second = self.row(plan);
+        let count = self.count();
+        let length = self.length(count.wrapping_mul(width) % 17);
+        let mut bytes = [0; 16];
+        self.fill(&mut bytes, copies, tag, first);
+        self.fill(&mut bytes[width.min(16)..], copies, tag, second);
+        let mut rows = [0; 65];
+        rows[0] = row_number(first);
+        rows[1] = row_number(second);
+        Call::Border(Border {
+            tag,
+            rows,
+            count,
+            bytes: Lent { bytes, length },
+        })
+    }
+
+    fn read(&mut self, plan: &Plan, copies: &Copies) -> Call {
+        let tag = self.tag(plan, copies);
+        let row = self.row(plan);
+        Call::Read { tag, row }
+    }
+
+    // The next call of a history; a delete may be of the origin.
+    pub fn call(&mut self, plan: &Plan, copies: &Copies) -> Call {
+        if self.draw(16) < plan.share {
+            return self.snapshot(plan, copies);
+        }
+        match self.draw(8) {
+            4 => self.border(plan, copies),
+            5 => Call::Count,
+            6 => Call::Delete {
+                tag: self.tag(plan, copies),
+            },
+            7 => self.read(plan, copies),
+            _ => self.write(plan, copies),
+        }
     }
 }
 
@@ -53,139 +163,12 @@ fn tag_number(k: usize) -> u16 {
     ((k % 65536) * 1009 % 65536) as u16
 }
 
-// A living version's tag three times in four; else any, two unknown ones among them.
-fn some_tag(tags: usize, copies: &[usize], dice: &mut usize) -> u16 {
-    if draw(dice, 4) > 0 {
-        let slot = draw(dice, sum(history_slots::snapshots(copies), 1));
-        return history_slots::living_tag(copies, slot);
-    }
-    tag_number(draw(dice, sum(tags, 2)))
+// A row's number in a border.
+fn row_number(row: usize) -> u16 {
+    (row % 65536) as u16
 }
 
 // The tag of the living version in the slot after all others, where no slot between is free; else a later one's, or the origin's.
-fn newest_tag(copies: &[usize]) -> u16 {
-    history_slots::living_tag(copies, history_slots::snapshots(copies))
-}
-
-// Where many snapshots are taken, they are mostly taken of the newest, so that the tree grows deep.
-fn source_tag(plan: Plan, copies: &[usize], dice: &mut usize) -> u16 {
-    if plan.share > 8 {
-        if draw(dice, 8) > 0 {
-            return newest_tag(copies);
-        }
-    }
-    some_tag(plan.tags, copies, dice)
-}
-
-// A row; now and then one past the end.
-fn some_row(rows: usize, dice: &mut usize) -> usize {
-    if draw(dice, 12) == 0 {
-        return rows;
-    }
-    draw(dice, rows)
-}
-
-// The right length; now and then another.
-fn some_length(width: usize, dice: &mut usize) -> usize {
-    if draw(dice, 12) == 0 {
-        return draw(dice, 16);
-    }
-    width
-}
-
-fn blank(kind: u8, tag: u16) -> Call {
-    Call {
-        kind,
-        tag,
-        new: 0,
-        row: 0,
-        second: 0,
-        count: 0,
-        length: 0,
-        bytes: [0u8; 16],
-        way: 0,
-        dice: 0,
-    }
-}
-
-// A snapshot; its new tag may be 0 or alive.
-fn snapshot(plan: Plan, copies: &[usize], dice: &mut usize) -> Call {
-    let mut call = blank(SNAPSHOT, source_tag(plan, copies, dice));
-    call.new = tag_number(draw(dice, plan.tags));
-    call
-}
-
-fn write(plan: Plan, copies: &[usize], dice: &mut usize) -> Call {
-    let mut call = blank(WRITE, some_tag(plan.tags, copies, dice));
-    call.row = some_row(plan.size.rows, dice);
-    call.length = some_length(plan.size.width, dice);
-    let mut bytes = [0u8; 16];
-    some_bytes(copies, call.tag, call.row, &mut bytes, 0, dice);
-    call.bytes = bytes;
-    let way = history_refusals::way_of(copies, plan.size, call);
-    call.way = way;
-    call
-}
-
-// How many rows a border has: mostly two; 65 are too many.
-fn some_count(dice: &mut usize) -> usize {
-    let n = draw(dice, 12);
-    match n {
-        0 => 0,
-        1 => 1,
-        2 => 65,
-        _ => 2,
-    }
-}
-
-// A border; its two rows may be one, and each has bytes drawn as a write's. For 65 rows too few bytes are lent.
-fn border(plan: Plan, copies: &[usize], dice: &mut usize) -> Call {
-    let mut call = blank(BORDER, some_tag(plan.tags, copies, dice));
-    call.row = some_row(plan.size.rows, dice);
-    call.second = some_row(plan.size.rows, dice);
-    call.count = some_count(dice);
-    call.length = some_length(product(call.count, plan.size.width) % 17, dice);
-    let mut bytes = [0u8; 16];
-    some_bytes(copies, call.tag, call.row, &mut bytes, 0, dice);
-    some_bytes(
-        copies,
-        call.tag,
-        call.second,
-        &mut bytes,
-        plan.size.width,
-        dice,
-    );
-    call.bytes = bytes;
-    call
-}
-
-// A delete, of the origin too, or a read.
-fn other(plan: Plan, copies: &[usize], dice: &mut usize, kind: u8) -> Call {
-    let mut call = blank(kind, some_tag(plan.tags, copies, dice));
-    if kind == READ {
-        call.row = some_row(plan.size.rows, dice);
-    }
-    call
-}
-
-fn drawn(plan: Plan, copies: &[usize], dice: &mut usize) -> Call {
-    if draw(dice, 16) < plan.share {
-        return snapshot(plan, copies, dice);
-    }
-    let kind = draw(dice, 8);
-    match kind {
-        4 => border(plan, copies, dice),
-        5 => blank(COUNT, 0),
-        6 => other(plan, copies, dice, DELETE),
-        7 => other(plan, copies, dice, READ),
-        _ => write(plan, copies, dice),
-    }
-}
-
-// The next call of a history, from the dice on.
-pub fn next(plan: Plan, copies: &[usize], first: usize) -> Call {
-    let mut dice = first;
-    let mut call = drawn(plan, copies, &mut dice);
-    call.dice = dice;
-    call
+fn newest_tag(copies: &Copies) -> u16 {
+    copies.living_tag(copies.snapshots())
 }

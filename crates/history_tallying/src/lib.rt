@@ -1,217 +1,321 @@
-// The tally of the test: what is counted of a configuration and of the whole run, and where the run is.
+// The tally of the test: what is counted of a configuration and of the whole run, where the run is, and the lines that
+// are written of it.
 #![tactic(auto)]
 
-use history_numbers::{above, add, put, sum};
-use history_plans::{BORDER, Call, DELETE, SNAPSHOT, WRITE};
-use history_sharers::node_of;
+use answers::Refusal;
+use history_comparing::{Difference, Tried};
+use history_copies::{Copies, SLOTS, Standing};
+use history_plans::{Border, Call, Plan};
+use history_sharers::{node_of, parent_of};
+use std::{fmt, io};
 use trees::Tree;
 
-// Of a configuration.
-pub const CALLS: usize = 0;
+// A number that is counted up.
+#[derive(Clone, Copy, Default)]
+struct Count(usize);
 
-pub const REFUSED: usize = 1;
+impl Count {
+    fn add(&mut self) {
+        self.0 = self.0.wrapping_add(1);
+    }
 
-pub const SNAPSHOTS: usize = 2;
-
-pub const DELETES: usize = 3;
-
-pub const DIFFERENCES: usize = 4;
-
-// Of the whole run; and the seed, the call and the dice that it is at.
-pub const TOTAL: usize = 5;
-
-pub const SEED: usize = 6;
-
-pub const CALL: usize = 7;
-
-pub const DICE: usize = 8;
-
-// From here on, how often each answer was given.
-pub const SEEN: usize = 9;
-
-// Nodes deleted in the whole run, by their children; and those that stood under a ghost.
-pub const LEAVES: usize = 265;
-
-pub const SINGLE: usize = 266;
-
-pub const SEVERAL: usize = 267;
-
-pub const UNDER_GHOST: usize = 268;
-
-// Equal bytes written in the whole run: to a row of the version's own, a shared one, one in a full store; and to a shared one of
-// a version with children.
-pub const EQUAL_OWN: usize = 269;
-
-pub const EQUAL_SHARED: usize = 270;
-
-pub const EQUAL_FULL: usize = 271;
-
-pub const EQUAL_ABOVE: usize = 272;
-
-// Borders in the whole run: done, with no row, one or two, one row twice; ended behind the first row by 3, by 24; of 65 rows.
-pub const NO_ROW: usize = 273;
-
-pub const ONE_ROW: usize = 274;
-
-pub const TWO_ROWS: usize = 275;
-
-pub const ROW_TWICE: usize = 276;
-
-pub const ENDED_3: usize = 277;
-
-pub const ENDED_24: usize = 278;
-
-pub const MANY_ROWS: usize = 279;
-
-// Rows compared after the calls of the whole run: of one version, of two, of more; among the last those of all 65; and those shared
-// past a ghost.
-pub const OF_ONE: usize = 280;
-
-pub const OF_TWO: usize = 281;
-
-pub const OF_MORE: usize = 282;
-
-pub const OF_ALL: usize = 283;
-
-pub const PAST_GHOST: usize = 284;
-
-// A configuration begins.
-pub fn clear(tally: &mut [usize]) {
-    put(tally, CALLS, 0);
-    put(tally, REFUSED, 0);
-    put(tally, SNAPSHOTS, 0);
-    put(tally, DELETES, 0);
-    put(tally, DIFFERENCES, 0);
-}
-
-// A history begins.
-pub fn begin(tally: &mut [usize], seed: usize, dice: usize) {
-    put(tally, SEED, seed);
-    put(tally, CALL, 0);
-    put(tally, DICE, dice);
-}
-
-fn add_if(tally: &mut [usize], i: usize, yes: bool) {
-    if yes {
-        add(tally, i);
+    fn add_if(&mut self, yes: bool) {
+        if yes {
+            self.add();
+        }
     }
 }
 
-// Where n is counted, at one of three indexes from the first on: for 0, for 1, for more.
-fn one_of(first: usize, n: usize) -> usize {
-    if n > 1 {
-        return sum(first, 2);
-    }
-    sum(first, n)
-}
-
-fn children(tree: Tree, n: usize) -> usize {
-    nodes::children(&tree.state, &tree.tag, &tree.parent, n)
-}
-
-// Is the parent of a node a ghost?
-fn under_ghost(tree: Tree, n: usize) -> bool {
-    let p = history_sharers::parent_of(tree, n);
-    if p < 128 {
-        return tree.state[p] == 2;
-    }
-    false
-}
-
-// The shape of the node that a delete takes away.
-fn count_shape(tally: &mut [usize], tree: Tree, tag: u16) {
-    let n = node_of(tree, tag);
-    add(tally, one_of(LEAVES, children(tree, n)));
-    add_if(tally, UNDER_GHOST, under_ghost(tree, n));
-}
-
-// A write of the bytes that were there.
-fn count_equal(tally: &mut [usize], tree: Tree, call: Call) {
-    if call.way < history_refusals::EQUAL {
-        return;
-    }
-    let way = above(call.way, history_refusals::EQUAL);
-    add(tally, sum(EQUAL_OWN, way));
-    if way != history_refusals::OWN {
-        let n = node_of(tree, call.tag);
-        add_if(tally, EQUAL_ABOVE, children(tree, n) > 0);
+impl fmt::Display for Count {
+    fn fmt<W: fmt::Write>(&self, f: &mut fmt::Formatter<W>) -> fmt::Result {
+        write!(f, "{}", self.0)
     }
 }
 
-fn count_delete(tally: &mut [usize], tree: Tree, tag: u16) {
-    add(tally, DELETES);
-    count_shape(tally, tree, tag);
+// The calls of a configuration.
+#[derive(Clone, Copy, Default)]
+struct Calls {
+    all: Count,
+    refused: Count,
+    snapshots: Count,
+    deletes: Count,
+    differences: Count,
 }
 
-// A border that was done.
-fn count_border(tally: &mut [usize], call: Call) {
-    add(tally, sum(NO_ROW, call.count));
-    if call.count == 2 {
-        add_if(tally, ROW_TWICE, call.row == call.second);
+impl fmt::Display for Calls {
+    fn fmt<W: fmt::Write>(&self, f: &mut fmt::Formatter<W>) -> fmt::Result {
+        write!(
+            f,
+            "calls {}, refused {}, snapshots {}, deletes {}, differences {}",
+            self.all, self.refused, self.snapshots, self.deletes, self.differences
+        )
     }
 }
 
-// A refused call; only a border may have done a row.
-fn count_refused(tally: &mut [usize], answer: u8, done: usize) {
-    add(tally, REFUSED);
-    add_if(tally, MANY_ROWS, answer == 25);
-    if done == 1 {
-        add_if(tally, ENDED_3, answer == 3);
-        add_if(tally, ENDED_24, answer == 24);
+// Nodes deleted, by their children; and those that stood under a ghost.
+#[derive(Clone, Copy, Default)]
+struct Deleted {
+    leaves: Count,
+    single: Count,
+    several: Count,
+    under_ghost: Count,
+}
+
+impl fmt::Display for Deleted {
+    fn fmt<W: fmt::Write>(&self, f: &mut fmt::Formatter<W>) -> fmt::Result {
+        write!(
+            f,
+            "leaves {}, with one child {}, with several {}, under a ghost {}",
+            self.leaves, self.single, self.several, self.under_ghost
+        )
     }
 }
 
-// A call that was not refused, on the tree before it.
-fn count_kind(tally: &mut [usize], tree: Tree, call: Call) {
-    let kind = call.kind;
-    match kind {
-        SNAPSHOT => add(tally, SNAPSHOTS),
-        WRITE => count_equal(tally, tree, call),
-        BORDER => count_border(tally, call),
-        DELETE => count_delete(tally, tree, call.tag),
-        _ => {}
+// Equal bytes written: to a row of the version's own, a shared one, one in a full store; and to a shared one of a version with
+// children.
+#[derive(Clone, Copy, Default)]
+struct Equal {
+    own: Count,
+    shared: Count,
+    full: Count,
+    above: Count,
+}
+
+impl fmt::Display for Equal {
+    fn fmt<W: fmt::Write>(&self, f: &mut fmt::Formatter<W>) -> fmt::Result {
+        write!(
+            f,
+            "own rows {}, shared rows {}, in a full store {}, above children {}",
+            self.own, self.shared, self.full, self.above
+        )
     }
 }
 
-// A call with its answer and the rows done, on the tree before it.
-pub fn count(tally: &mut [usize], tree: Tree, call: Call, answer: u8, done: usize) {
-    put(tally, DICE, call.dice);
-    add(tally, CALL);
-    add(tally, CALLS);
-    add(tally, sum(SEEN, widen::byte(answer)));
-    if answer == 0 {
-        count_kind(tally, tree, call);
-    } else {
-        count_refused(tally, answer, done);
+// Borders: done, with no row, one or two, one row twice; ended behind the first row by 3, by 24; of 65 rows.
+#[derive(Clone, Copy, Default)]
+struct Borders {
+    none: Count,
+    one: Count,
+    two: Count,
+    twice: Count,
+    bad_row: Count,
+    full: Count,
+    many: Count,
+}
+
+impl fmt::Display for Borders {
+    fn fmt<W: fmt::Write>(&self, f: &mut fmt::Formatter<W>) -> fmt::Result {
+        write!(
+            f,
+            "of no row {}, of one {}, of two {}, of a row twice {}, ended behind the first row by 3: {}, by 24: {}, of 65 rows {}",
+            self.none, self.one, self.two, self.twice, self.bad_row, self.full, self.many
+        )
     }
 }
 
-// A shared row of a version: one without children that stands under a ghost shares it past the ghost.
-fn count_shared(tally: &mut [usize], tree: Tree, tag: u16) {
-    let v = node_of(tree, tag);
-    if under_ghost(tree, v) {
-        add_if(tally, PAST_GHOST, children(tree, v) == 0);
+// Rows compared after the calls: of one version, of two, of more; among the last those of all 65; and those shared past a ghost.
+#[derive(Clone, Copy, Default)]
+struct Rows {
+    own: Count,
+    two: Count,
+    more: Count,
+    all: Count,
+    past_ghost: Count,
+}
+
+impl fmt::Display for Rows {
+    fn fmt<W: fmt::Write>(&self, f: &mut fmt::Formatter<W>) -> fmt::Result {
+        write!(
+            f,
+            "own {}, of two {}, of more {}, of all 65 {}, past a ghost {}",
+            self.own, self.two, self.more, self.all, self.past_ghost
+        )
     }
 }
 
-// The k-th row of all slots, where its version is alive.
-fn count_row(tally: &mut [usize], tree: Tree, copies: &[usize], rows: usize, k: usize) {
-    if !history_slots::in_use(copies, rows, k) {
-        return;
+// More than the number of any refusal.
+const REFUSALS: usize = 26;
+
+// The calls are those of one configuration; all else is counted of the whole run.
+#[derive(Clone, Copy, Default)]
+pub struct Tally {
+    seed: usize,
+    call: Count,
+    calls: Calls,
+    refusals: [bool; REFUSALS],
+    deleted: Deleted,
+    equal: Equal,
+    borders: Borders,
+    rows: Rows,
+    differences: Count,
+}
+
+// How many children a version's node has.
+fn children(tree: &Tree, tag: u16) -> usize {
+    node_of(tree, tag).map_or(0, |node| nodes::children(tree, node))
+}
+
+// Is the parent of a version's node a ghost?
+fn under_ghost(tree: &Tree, tag: u16) -> bool {
+    node_of(tree, tag).is_some_and(|node| tree.state.get(parent_of(tree, node)) == Some(&2))
+}
+
+// What is counted.
+impl Tally {
+    // A configuration begins.
+    pub fn clear(&mut self) {
+        self.calls = Calls::default();
     }
-    let n = history_slots::sharers(copies, k / 8, k % 8);
-    add(tally, one_of(OF_ONE, above(n, 1)));
-    add_if(tally, OF_ALL, n == history_slots::SLOTS);
-    if n > 1 {
-        count_shared(tally, tree, history_slots::tag_of(copies, k / 8));
+
+    // A history begins.
+    pub fn begin(&mut self, seed: usize) {
+        self.seed = seed;
+        self.call = Count::default();
+    }
+
+    // A delete: the shape of the node that it takes away.
+    fn count_delete(&mut self, tree: &Tree, tag: u16) {
+        self.calls.deletes.add();
+        match children(tree, tag) {
+            0 => self.deleted.leaves.add(),
+            1 => self.deleted.single.add(),
+            _ => self.deleted.several.add(),
+        }
+        self.deleted.under_ghost.add_if(under_ghost(tree, tag));
+    }
+
+    // A write of the bytes that were there.
+    fn count_equal(&mut self, tree: &Tree, tag: u16, standing: Standing) {
+        match standing {
+            Standing::Own => self.equal.own.add(),
+            Standing::Shared => self.equal.shared.add(),
+            Standing::Full => self.equal.full.add(),
+        }
+        if standing != Standing::Own {
+            self.equal.above.add_if(children(tree, tag) > 0);
+        }
+    }
+
+    // A border that was done.
+    fn count_border(&mut self, border: &Border) {
+        match border.rows() {
+            [] => self.borders.none.add(),
+            [_] => self.borders.one.add(),
+            [first, second, ..] => {
+                self.borders.two.add();
+                self.borders.twice.add_if(first == second);
+            }
+        }
+    }
+
+    // A call that was not refused, on the tree before it; and how a row stood whose bytes it wrote once more.
+    fn count_done(&mut self, tree: &Tree, call: &Call, equal: Option<Standing>) {
+        match call {
+            Call::Snapshot { .. } => self.calls.snapshots.add(),
+            Call::Write(write) => {
+                if let Some(standing) = equal {
+                    self.count_equal(tree, write.tag, standing);
+                }
+            }
+            Call::Border(border) => self.count_border(border),
+            Call::Delete { tag } => self.count_delete(tree, *tag),
+            Call::Count | Call::Read { .. } => {}
+        }
+    }
+
+    // A refused call; only a border may have done a row.
+    fn count_refused(&mut self, refusal: Refusal, done: usize) {
+        self.calls.refused.add();
+        if let Some(seen) = self.refusals.get_mut(usize::from(refusal.number())) {
+            *seen = true;
+        }
+        self.borders.many.add_if(refusal == Refusal::TooManyRows);
+        if done == 1 {
+            self.borders.bad_row.add_if(refusal == Refusal::BadRow);
+            self.borders.full.add_if(refusal == Refusal::PlacesFull);
+        }
+    }
+
+    // A call as it was tried, on the tree before it.
+    pub fn count(&mut self, tree: &Tree, call: &Call, equal: Option<Standing>, tried: &Tried) {
+        self.call.add();
+        self.calls.all.add();
+        match tried.outcome.answer {
+            Ok(()) => self.count_done(tree, call, equal),
+            Err(refusal) => self.count_refused(refusal, tried.outcome.done),
+        }
+    }
+
+    // A row of a version, and how many share it: a version without children that stands under a ghost shares it past the ghost.
+    fn count_row(&mut self, tree: &Tree, tag: u16, sharers: usize) {
+        match sharers {
+            0 | 1 => self.rows.own.add(),
+            2 => self.rows.two.add(),
+            _ => self.rows.more.add(),
+        }
+        self.rows.all.add_if(sharers == SLOTS);
+        if sharers > 1 {
+            let past = under_ghost(tree, tag) && children(tree, tag) == 0;
+            self.rows.past_ghost.add_if(past);
+        }
+    }
+
+    // Every row of every living version, on the tree after a call.
+    pub fn count_rows(&mut self, tree: &Tree, copies: &Copies) {
+        for version in copies.slots().iter().flatten() {
+            for (r, row) in copies.rows(version).iter().enumerate() {
+                self.count_row(tree, version.tag, copies.sharers(r, row.mark));
+            }
+        }
     }
 }
 
-// Every row of every living version, on the tree after a call.
-pub fn count_rows(tally: &mut [usize], tree: Tree, copies: &[usize], rows: usize) {
-    let mut k: usize = 0;
-    while k < 520 {
-        count_row(tally, tree, copies, rows, k);
-        k += 1;
+// The lines that are written.
+impl Tally {
+    // Counts a call after which something differs; the first few are shown at once.
+    pub fn differ(
+        &mut self,
+        rt: &impl Print,
+        plan: &Plan,
+        what: Option<Difference>,
+    ) -> io::Result<()> {
+        let Some(what) = what else {
+            return Ok(());
+        };
+        self.calls.differences.add();
+        self.differences.add();
+        if self.differences.0 > 5 {
+            return Ok(());
+        }
+        println!(rt;
+            "difference in {what}: {plan}, seed {}, call {}",
+            self.seed, self.call
+        )
+    }
+
+    // A configuration.
+    pub fn show_calls(&self, rt: &impl Print, plan: &Plan) -> io::Result<()> {
+        println!(rt; "{plan}: seeds {}, {}", plan.seeds, self.calls)
+    }
+
+    // The number of every refusal that was given.
+    fn show_refusals(&self, rt: &impl Print) -> io::Result<()> {
+        print!(rt; "refusals seen:")?;
+        for (number, seen) in self.refusals.iter().enumerate() {
+            if *seen {
+                print!(rt; " {number}")?;
+            }
+        }
+        println!(rt; "")
+    }
+
+    // The whole run: the refusals, the nodes deleted, the equal bytes written, the borders, the rows, and the differences.
+    pub fn show_end(&self, rt: &impl Print) -> io::Result<()> {
+        self.show_refusals(rt)?;
+        println!(rt; "deleted: {}", self.deleted)?;
+        println!(rt; "equal bytes written: {}", self.equal)?;
+        println!(rt; "borders: {}", self.borders)?;
+        println!(rt; "rows compared after the calls: {}", self.rows)?;
+        println!(rt; "differences {}", self.differences)
     }
 }

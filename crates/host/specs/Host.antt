@@ -2,7 +2,9 @@
 use Rattle.std.specs.Prelude.{◌≡◌, ◌≢◌, List, ℕ, length}
 use Rattle.std.proofs.Math.Option.{Option}
 use Rattle.records.specs.Sound.{Sound}
-use Rattle.answers.specs.Answers.{Refusal, unsound, number}
+use Rattle.answers.specs.declared.Refusal.{Refusal}
+use Rattle.answers.specs.declared.Refusal.TheVariants.{Unsound}
+use Rattle.answers.specs.Answers.{number}
 use Rattle.soundness.specs.Judged.{Leaves}
 use Rattle.layout.specs.Layout.{entries, size_at, loaded, Fits}
 
@@ -13,7 +15,7 @@ pub record Host (b : List ℕ) (Yes No : Type 0) : Type 0 where
 
 -- a call that may change something: as its tests say on sound records; 20, and all as it was, on others
 abbrev pub HostEnds : {A : Type 0} → List ℕ → Option Refusal → A → A → ℕ → A → Type 0
-HostEnds b verdict old new answer got = Host b (Leaves verdict old new answer got) ((answer ≡ number unsound) × (got ≡ old))
+HostEnds b verdict old new answer got = Host b (Leaves verdict old new answer got) ((answer ≡ number Unsound) × (got ≡ old))
 
 -- the records and the places
 abbrev pub Lent : Type 0

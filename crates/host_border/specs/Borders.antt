@@ -1,7 +1,7 @@
 -- What a border answers and leaves of records and places, the records being bytes. Definitions only. Assumes nothing.
 use Rattle.std.specs.Prelude.{cond, List, ℕ, eqb}
 use Rattle.records.specs.Records.{Records, records_of}
-use Rattle.answers.specs.Answers.{unsound}
+use Rattle.answers.specs.declared.Refusal.TheVariants.{Unsound}
 use Rattle.answers.specs.InOrder.{Ended, stopped}
 use Rattle.owning.specs.Owning.{Held}
 use Rattle.borders.specs.Bordering.{bordered, Ends}
@@ -21,4 +21,4 @@ lent_as b z e = record {
 
 abbrev pub HostBorders : List ℕ → List ℕ → ℕ → List ℕ → List ℕ → ℕ → ℕ → Lent → Type 0
 HostBorders b places tag rows bytes number done got =
-    Host b (Ends (lent_as b (loaded b) (bordered (loaded b) places tag rows bytes)) number done got) (Ends (stopped (b, places) unsound) number done got)
+    Host b (Ends (lent_as b (loaded b) (bordered (loaded b) places tag rows bytes)) number done got) (Ends (stopped (b, places) Unsound) number done got)

@@ -7,7 +7,7 @@ use Rattle.basics.specs.Decide.{at}
 use Rattle.measures.specs.declared.Size.{Size}
 use Rattle.trees.specs.declared.Tree.{Tree}
 use Rattle.records.specs.Records.{Records, records_of}
-use Rattle.answers.specs.Answers.{unsound}
+use Rattle.answers.specs.declared.Refusal.TheVariants.{Unsound}
 use Rattle.answers.specs.InOrder.{Ended, stopped}
 use Rattle.owning.specs.Owning.{Held, held}
 use Rattle.borders.specs.Bordering.{Ends, BorderEnds}
@@ -31,8 +31,8 @@ module _ (b : List ℕ) (z : Records) {e : Ended Held} {number done : ℕ} {got 
   }
 
 -- and where none was judged, nothing is changed
-as_none : (b places new : List ℕ) {tree : Tree} {node row : List ℕ} {number done : ℕ} {got : Held} {b' : List ℕ} → Ends (stopped (held tree node row places) unsound) number done got → b' ≡ bytes_after b done new
-    → Ends {S = Lent} (stopped (b, places) unsound) number done (b', got.places)
+as_none : (b places new : List ℕ) {tree : Tree} {node row : List ℕ} {number done : ℕ} {got : Held} {b' : List ℕ} → Ends (stopped (held tree node row places) Unsound) number done got → b' ≡ bytes_after b done new
+    → Ends {S = Lent} (stopped (b, places) Unsound) number done (b', got.places)
 as_none b places new {done = done} k s = record {
   numbered = k.numbered;
   counted = k.counted;

@@ -1,75 +1,70 @@
 // A border, the records being bytes. The rows are loaded into a buffer of their own, as small as serves.
 #![tactic(auto)]
 
-ghost use Rattle.std.specs.Prelude.{◌≡◌};
+ghost use Rattle.std.specs.Prelude.{◌≡◌, ◌≤◌};
+ghost use Rattle.borders.specs.Refused.{number_of};
 ghost use Rattle.records.specs.Records.{records_of};
-ghost use Rattle.layout.specs.Layout.{size_at, nodes_at, stored};
+ghost use Rattle.layout.specs.Layout.{entries, size_at, nodes_at, stored, Fits};
 ghost use Rattle.host.specs.Host.{Ready};
 ghost use Rattle.host_border.specs.Borders.{bytes_after, HostBorders};
 
+use answers::Refusal;
 use layout::TABLE_AT;
 use trees::Tree;
 
-// Rows of the version with a tag are written, in their order, until one is refused. Refusals: 20, 25, 2, 21, 3, 24.
-pub fn border(
-    records: &mut [u8],
-    places: &mut [u8],
-    tag: u16,
-    rows: &[u16],
-    bytes: &[u8],
-    done: &mut usize,
-) -> u8
-    ensures { HostBorders records.old places.old tag rows.now bytes.now result done.new (records.new, places.new) }
-{
-    if !layout::fits(records) {
-        *done = 0;
-        return 20;
-    }
-    let n = layout::entries(records);
-    if n <= 64 {
-        let mut few = [0u16; 64];
-        return border_in(records, &mut few[..n], places, tag, rows, bytes, done);
-    }
-    if n <= 512 {
-        let mut some = [0u16; 512];
-        return border_in(records, &mut some[..n], places, tag, rows, bytes, done);
-    }
-    let mut row = [0u16; 4096];
-    border_in(records, &mut row[..n], places, tag, rows, bytes, done)
+// How many rows were done, and the refusal that ended them.
+#[derive(Clone, Copy)]
+pub struct Rows {
+    pub refusal: Option<Refusal>,
+    pub done: usize,
 }
 
-// The same, with a buffer lent for the rows. The nodes are lent where they lie.
-fn border_in(
+// Rows of the version with a tag are written, in their order, until one is refused. Refusals: 20, 25, 2, 21, 3, 24.
+pub fn border(records: &mut [u8], places: &mut [u8], tag: u16, rows: &[u16], bytes: &[u8]) -> Rows
+    ensures { HostBorders records.old places.old tag rows.now bytes.now (number_of result.refusal) result.done (records.new, places.new) }
+{
+    if !layout::fits(records) {
+        return Rows {
+            refusal: Some(Refusal::Unsound),
+            done: 0,
+        };
+    }
+    // The smallest buffer that serves. A function or macro that chose it would be handed what the call is handed, three times.
+    let n = layout::entries(records);
+    if n <= 64 {
+        return border_in::<64>(records, n, places, tag, rows, bytes);
+    }
+    if n <= 512 {
+        return border_in::<512>(records, n, places, tag, rows, bytes);
+    }
+    border_in::<4096>(records, n, places, tag, rows, bytes)
+}
+
+// The same, with a buffer of N for the rows. The nodes are lent where they lie.
+fn border_in<const N: usize>(
     records: &mut [u8],
-    row: &mut [u16],
+    n: usize,
     places: &mut [u8],
     tag: u16,
     rows: &[u16],
     bytes: &[u8],
-    done: &mut usize,
-) -> u8
-    requires { Ready records.old row.old }
-    ensures { HostBorders records.old places.old tag rows.now bytes.now result done.new (records.new, places.new) }
+) -> Rows
+    requires fits { Fits records.old × (n ≡ entries (size_at records.old)) }
+    requires room { (n ≤ N) × (N ≤ 4096) }
+    ensures { HostBorders records.old places.old tag rows.now bytes.now (number_of result.refusal) result.done (records.new, places.new) }
 {
+    let mut buffer = [0u16; N];
+    let row = &mut buffer[..n];
     let size = layout::size(records);
     let tree = loading::load(records, row);
-    let to = TABLE_AT + row.len();
-    let b = bordering::border(
-        size,
-        tree,
-        &mut records[TABLE_AT..to],
-        row,
-        places,
-        tag,
-        rows,
-        bytes,
-    );
-    let answer = b.answer;
-    let count = b.done;
-    let next = b.tree;
-    keep_done(records, count, next, row);
-    *done = count;
-    answer
+    let to = TABLE_AT + n;
+    let node = &mut records[TABLE_AT..to];
+    let b = bordering::border(size, tree, node, row, places, tag, rows, bytes);
+    keep_done(records, b.done, b.tree, row);
+    Rows {
+        refusal: b.refusal,
+        done: b.done,
+    }
 }
 
 // What a border left is stored, unless no row was done: the tree and the rows. The nodes lie where it had them.

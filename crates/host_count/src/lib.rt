@@ -1,43 +1,44 @@
 // The counts, the records being bytes. The rows are loaded into a buffer of their own, as small as serves.
 #![tactic(auto)]
 
-ghost use Rattle.host.specs.Host.{Ready};
+ghost use Rattle.std.specs.Prelude.{◌≡◌, ◌≤◌};
+ghost use Rattle.answers.specs.Results.{answer_of};
+ghost use Rattle.counting.specs.Counted.{used_of, snapshots_of};
+ghost use Rattle.layout.specs.Layout.{entries, size_at, Fits};
 ghost use Rattle.host_count.specs.Counts.{HostCounts};
 
+use answers::Refusal;
+use counting::Counts;
 use layout::TABLE_AT;
 
-// Places in use and snapshots alive; both 0 if refused. Refusal: 20.
-pub fn count(records: &[u8], used: &mut usize, snapshots: &mut usize) -> u8
-    ensures { HostCounts records.now result used.new snapshots.new }
+// Places in use and snapshots alive. Refusal: 20.
+pub fn count(records: &[u8]) -> Result<Counts, Refusal>
+    ensures { HostCounts records.now (answer_of result) (used_of result) (snapshots_of result) }
 {
     if !layout::fits(records) {
-        *used = 0;
-        *snapshots = 0;
-        return 20;
+        return Err(Refusal::Unsound);
     }
+    // The smallest buffer that serves. A function or macro that chose it would be handed what the call is handed, three times.
     let n = layout::entries(records);
     if n <= 64 {
-        let mut few = [0u16; 64];
-        return count_in(records, &mut few[..n], used, snapshots);
+        return count_in::<64>(records, n);
     }
     if n <= 512 {
-        let mut some = [0u16; 512];
-        return count_in(records, &mut some[..n], used, snapshots);
+        return count_in::<512>(records, n);
     }
-    let mut row = [0u16; 4096];
-    count_in(records, &mut row[..n], used, snapshots)
+    count_in::<4096>(records, n)
 }
 
-// The same, with a buffer lent for the rows. The nodes are lent where they lie.
-fn count_in(records: &[u8], row: &mut [u16], used: &mut usize, snapshots: &mut usize) -> u8
-    requires { Ready records.now row.old }
-    ensures { HostCounts records.now result used.new snapshots.new }
+// The same, with a buffer of N for the rows. The nodes are lent where they lie.
+fn count_in<const N: usize>(records: &[u8], n: usize) -> Result<Counts, Refusal>
+    requires fits { Fits records.now × (n ≡ entries (size_at records.now)) }
+    requires room { (n ≤ N) × (N ≤ 4096) }
+    ensures { HostCounts records.now (answer_of result) (used_of result) (snapshots_of result) }
 {
+    let mut buffer = [0u16; N];
+    let row = &mut buffer[..n];
     let size = layout::size(records);
     let tree = loading::load(records, row);
-    let to = TABLE_AT + row.len();
-    let c = counting::count(size, tree, &records[TABLE_AT..to], row);
-    *used = c.used;
-    *snapshots = c.snapshots;
-    c.answer
+    let to = TABLE_AT + n;
+    counting::count(size, tree, &records[TABLE_AT..to], row)
 }

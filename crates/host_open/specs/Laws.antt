@@ -8,7 +8,7 @@ use Rattle.std.proofs.lemmas.List.{length-replicate, replicate-append-replicate}
 use Rattle.basics.specs.Decide.{not_yes, not_no}
 use Rattle.measures.specs.declared.Size.{Size}
 use Rattle.measures.specs.Measures.{Within}
-use Rattle.answers.specs.Answers.{bad_size, bad_length}
+use Rattle.answers.specs.declared.Refusal.TheVariants.{BadSize, BadLength}
 use Rattle.answers.specs.Tests.{Tests, refusal, in_measure}
 use Rattle.answers.proofs.Laws.{refusal_here, refusal_next, refusal_none, in_measure_lem, measure_in}
 use Rattle.soundness.specs.Judged.{leaves_refused, leaves_done}
@@ -20,15 +20,15 @@ use Rattle.host_open.specs.Opens.{HostOpens, first_records, open_tests}
 
 module _ (z : Size) (b places : List ℕ) where
   lengths : Tests
-  lengths = (not (eqb (length places) (z.places * z.width)), bad_length) ∷ (not (eqb (length b) (records_size z)), bad_length) ∷ []
+  lengths = (not (eqb (length places) (z.places * z.width)), BadLength) ∷ (not (eqb (length b) (records_size z)), BadLength) ∷ []
 
   measured : Within z → refusal (open_tests z (length b) (length places)) ≡ refusal lengths
   unfolding open_tests lengths
-  measured w = refusal_next bad_size _ (not_no (in_measure_lem z w))
+  measured w = refusal_next BadSize _ (not_no (in_measure_lem z w))
 
   pub open_size : (Within z → ⊥) → HostOpens z b places 1 (b, places)
   unfolding open_tests
-  open_size f = leaves_refused bad_size (refusal_here bad_size _ (not_yes (no_measure (in_measure z) (λ e. f (measure_in z e)))))
+  open_size f = leaves_refused BadSize (refusal_here BadSize _ (not_yes (no_measure (in_measure z) (λ e. f (measure_in z e)))))
     where
       no_measure : (x : Bool) → (x ≡ true → ⊥) → x ≡ false
       no_measure true g = absurd (g refl)
@@ -36,16 +36,16 @@ module _ (z : Size) (b places : List ℕ) where
 
   pub open_places : Within z → length places ≢ z.places * z.width → HostOpens z b places 2 (b, places)
   unfolding lengths
-  open_places w f = leaves_refused bad_length (measured w ∙ refusal_here bad_length _ (not_yes (ne_eqb _ _ f)))
+  open_places w f = leaves_refused BadLength (measured w ∙ refusal_here BadLength _ (not_yes (ne_eqb _ _ f)))
 
   pub open_records : Within z → length places ≡ z.places * z.width → length b ≢ records_size z → HostOpens z b places 2 (b, places)
   unfolding lengths
-  open_records w e f = leaves_refused bad_length (measured w ∙ refusal_next bad_length _ (not_no (eq-eqb _ _ e)) ∙ refusal_here bad_length [] (not_yes (ne_eqb _ _ f)))
+  open_records w e f = leaves_refused BadLength (measured w ∙ refusal_next BadLength _ (not_no (eq-eqb _ _ e)) ∙ refusal_here BadLength [] (not_yes (ne_eqb _ _ f)))
 
   pub open_done : Within z → length places ≡ z.places * z.width → length b ≡ records_size z → {b' places' : List ℕ} → b' ≡ stored (first_records z) → places' ≡ replicate (length places) 0 → HostOpens z b places 0 (b', places')
   unfolding lengths
   open_done w e l s p = leaves_done
-      (measured w ∙ refusal_next bad_length _ (not_no (eq-eqb _ _ e)) ∙ refusal_next bad_length [] (not_no (eq-eqb _ _ l)) ∙ refusal_none)
+      (measured w ∙ refusal_next BadLength _ (not_no (eq-eqb _ _ e)) ∙ refusal_next BadLength [] (not_no (eq-eqb _ _ l)) ∙ refusal_none)
       (ap₂ (λ (c d : List ℕ). (c, d)) s p)
 
 -- The first records, as they are laid

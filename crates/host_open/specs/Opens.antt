@@ -1,8 +1,8 @@
 -- What an opening answers and leaves, the records being bytes. Definitions only. Assumes nothing.
-use Rattle.std.specs.Prelude.{◌≡◌, not, List, [], ◌∷◌, ℕ, ◌*◌, eqb, length, replicate}
+use Rattle.std.specs.Prelude.{not, List, [], ◌∷◌, ℕ, ◌*◌, eqb, length, replicate}
 use Rattle.measures.specs.declared.Size.{Size}
 use Rattle.records.specs.Records.{Records, records_of}
-use Rattle.answers.specs.Answers.{bad_size, bad_length}
+use Rattle.answers.specs.declared.Refusal.TheVariants.{BadSize, BadLength}
 use Rattle.answers.specs.Tests.{Tests, refusal, in_measure}
 use Rattle.soundness.specs.Judged.{Leaves}
 use Rattle.opening.specs.Opening.{first_tree}
@@ -11,9 +11,9 @@ use Rattle.host.specs.Host.{Lent}
 
 unfoldable pub open_tests : Size → ℕ → ℕ → Tests
 open_tests z records places =
-    (not (in_measure z), bad_size)
-    ∷ (not (eqb places (z.places * z.width)), bad_length)
-    ∷ (not (eqb records (records_size z)), bad_length)
+    (not (in_measure z), BadSize)
+    ∷ (not (eqb places (z.places * z.width)), BadLength)
+    ∷ (not (eqb records (records_size z)), BadLength)
     ∷ []
 
 abbrev pub size_of : ℕ → ℕ → ℕ → Size

@@ -2,10 +2,12 @@
 #![tactic(auto)]
 
 ghost use Rattle.std.specs.Prelude.{◌≡◌, length};
+ghost use Rattle.answers.specs.Results.{answer_of};
 ghost use Rattle.measures.specs.Measures.{Within};
 ghost use Rattle.layout.specs.Layout.{records_size, stored};
 ghost use Rattle.host_open.specs.Opens.{HostOpens, first_records};
 
+use answers::Refusal;
 use measures::Size;
 
 // The records of an opened store: its measures, node 0 alive, and zeros.
@@ -20,19 +22,19 @@ fn lay_first(records: &mut [u8], size: Size)
 }
 
 // A store of given measures. Refusals: 1, 2.
-pub fn open(records: &mut [u8], places: &mut [u8], size: Size) -> u8
-    ensures { HostOpens size records.old places.old result (records.new, places.new) }
+pub fn open(records: &mut [u8], places: &mut [u8], size: Size) -> Result<(), Refusal>
+    ensures { HostOpens size records.old places.old (answer_of result) (records.new, places.new) }
 {
     if !measures::within(size) {
-        return 1;
+        return Err(Refusal::BadSize);
     }
     if places.len() != size.places * size.width {
-        return 2;
+        return Err(Refusal::BadLength);
     }
     if records.len() != layout::records_size(size) {
-        return 2;
+        return Err(Refusal::BadLength);
     }
     opening::clear(places);
     lay_first(records, size);
-    0
+    Ok(())
 }

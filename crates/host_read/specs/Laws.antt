@@ -9,7 +9,9 @@ use Rattle.basics.specs.Decide.{at, not_yes, not_no}
 use Rattle.measures.specs.declared.Size.{Size}
 use Rattle.trees.specs.declared.Tree.{Tree}
 use Rattle.records.specs.Records.{Records, records_of, lives}
-use Rattle.answers.specs.Answers.{Refusal, bad_length, bad_row, unknown_tag, unsound, handed, refused_of, row}
+use Rattle.answers.specs.declared.Refusal.{Refusal}
+use Rattle.answers.specs.declared.Refusal.TheVariants.{BadLength, BadRow, UnknownTag}
+use Rattle.answers.specs.Answers.{handed, refused_of, row}
 use Rattle.answers.specs.Tests.{refusal, unless, verdict_number}
 use Rattle.soundness.specs.Judged.{Leaves}
 use Rattle.reads.specs.Reads.{ReadEnds, read_answer, row_of_tag, sharers_of_tag}
@@ -22,10 +24,10 @@ use Rattle.host.specs.Laws.{host_judged, as_loaded}
 
 -- the tests of a read, by what each of them says: places, row, tag; and with the length of the bytes lent for the row
 reads : Bool → Bool → Bool → Option Refusal
-reads p r t = refusal ((p, bad_length) ∷ (r, bad_row) ∷ (t, unknown_tag) ∷ [])
+reads p r t = refusal ((p, BadLength) ∷ (r, BadRow) ∷ (t, UnknownTag) ∷ [])
 
 copies : Bool → Bool → Bool → Bool → Option Refusal
-copies p o r t = refusal ((p, bad_length) ∷ (o, bad_length) ∷ (r, bad_row) ∷ (t, unknown_tag) ∷ [])
+copies p o r t = refusal ((p, BadLength) ∷ (o, BadLength) ∷ (r, BadRow) ∷ (t, UnknownTag) ∷ [])
 
 -- a read that was made, and a copy of its row
 module _ (bytes out : List ℕ) (seen : ℕ) where

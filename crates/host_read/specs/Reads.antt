@@ -1,7 +1,7 @@
 -- What a read answers and leaves in the bytes and the number lent for the row, the records being bytes. Definitions only. Assumes nothing.
 use Rattle.std.specs.Prelude.{◌≡◌, not, cond, List, [], ◌∷◌, ℕ, ◌*◌, eqb, leb, length}
 use Rattle.records.specs.Records.{Records, lives}
-use Rattle.answers.specs.Answers.{bad_length, bad_row, unknown_tag}
+use Rattle.answers.specs.declared.Refusal.TheVariants.{BadLength, BadRow, UnknownTag}
 use Rattle.answers.specs.Tests.{Tests, refusal}
 use Rattle.reads.specs.Reads.{row_of_tag, sharers_of_tag}
 use Rattle.layout.specs.Layout.{loaded}
@@ -9,10 +9,10 @@ use Rattle.host.specs.Host.{HostEnds}
 
 unfoldable pub read_tests : Records → ℕ → ℕ → ℕ → ℕ → Tests
 read_tests z places out tag r =
-    (not (eqb places (z.size.places * z.size.width)), bad_length)
-    ∷ (not (eqb out z.size.width), bad_length)
-    ∷ (leb z.size.rows r, bad_row)
-    ∷ (not (lives z tag), unknown_tag)
+    (not (eqb places (z.size.places * z.size.width)), BadLength)
+    ∷ (not (eqb out z.size.width), BadLength)
+    ∷ (leb z.size.rows r, BadRow)
+    ∷ (not (lives z tag), UnknownTag)
     ∷ []
 
 -- how a row that was read goes into those bytes: the read's number, but 2 where they have another length, and 20 before it

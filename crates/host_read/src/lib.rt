@@ -1,98 +1,81 @@
 // A read, the records being bytes. The rows are loaded into a buffer of their own, as small as serves.
 #![tactic(auto)]
 
-ghost use Rattle.std.specs.Prelude.{◌≡◌, length};
-ghost use Rattle.host.specs.Host.{Ready};
+ghost use Rattle.std.specs.Prelude.{◌≡◌, ◌≤◌, length};
+ghost use Rattle.answers.specs.Results.{answer_of};
+ghost use Rattle.layout.specs.Layout.{entries, size_at, Fits};
+ghost use Rattle.queries.specs.Lent.{bytes_of, sharers_of};
 ghost use Rattle.host_read.specs.Reads.{HostReads, Copied};
+ghost use Rattle.host_read.specs.Told.{told_of};
 
+use answers::Refusal;
 use layout::TABLE_AT;
 use measures::{Row, Size};
+use queries::Lent;
 
-// A row of the version with a tag is copied to `out`, and `sharers` says how many living versions share it; 0 if refused. Refusals: 20, 2, 3, 21.
+// A row of the version with a tag is copied to `out`, and handed out is how many living versions share it. Refusals: 20, 2, 3, 21.
 pub fn read(
     records: &[u8],
     places: &[u8],
     tag: u16,
     r: Row,
     out: &mut [u8],
-    sharers: &mut usize,
-) -> u8
-    ensures { HostReads records.now places.now tag r.0 out.old result (out.new, sharers.new) }
+) -> Result<usize, Refusal>
+    ensures { HostReads records.now places.now tag r.0 out.old (answer_of result) (out.new, told_of result) }
 {
     if !layout::fits(records) {
-        *sharers = 0;
-        return 20;
+        return Err(Refusal::Unsound);
     }
+    // The smallest buffer that serves. A function or macro that chose it would be handed what the call is handed, three times.
     let n = layout::entries(records);
     if n <= 64 {
-        let mut few = [0u16; 64];
-        return read_in(records, &mut few[..n], places, tag, r, out, sharers);
+        return read_in::<64>(records, n, places, tag, r, out);
     }
     if n <= 512 {
-        let mut some = [0u16; 512];
-        return read_in(records, &mut some[..n], places, tag, r, out, sharers);
+        return read_in::<512>(records, n, places, tag, r, out);
     }
-    let mut row = [0u16; 4096];
-    read_in(records, &mut row[..n], places, tag, r, out, sharers)
+    read_in::<4096>(records, n, places, tag, r, out)
 }
 
-// The same, with a buffer lent for the rows. The nodes are lent where they lie.
-fn read_in<'a>(
+// The same, with a buffer of N for the rows. The nodes are lent where they lie.
+fn read_in<const N: usize>(
     records: &[u8],
-    row: &mut [u16],
-    places: &'a [u8],
+    n: usize,
+    places: &[u8],
     tag: u16,
     r: Row,
     out: &mut [u8],
-    sharers: &mut usize,
-) -> u8
-    requires { Ready records.now row.old }
-    ensures { HostReads records.now places.now tag r.0 out.old result (out.new, sharers.new) }
+) -> Result<usize, Refusal>
+    requires fits { Fits records.now × (n ≡ entries (size_at records.now)) }
+    requires room { (n ≤ N) × (N ≤ 4096) }
+    ensures { HostReads records.now places.now tag r.0 out.old (answer_of result) (out.new, told_of result) }
 {
+    let mut buffer = [0u16; N];
+    let row = &mut buffer[..n];
     let size = layout::size(records);
     let tree = loading::load(records, row);
-    let to = TABLE_AT + row.len();
-    let mut answer: u8 = 0;
-    let mut seen: usize = 0;
-    let bytes = queries::read(
-        size,
-        tree,
-        &records[TABLE_AT..to],
-        row,
-        places,
-        tag,
-        r,
-        &mut answer,
-        &mut seen,
-    );
-    let number = answer;
-    let many = seen;
-    copy_row(size, number, bytes, many, out, sharers)
+    let to = TABLE_AT + n;
+    let lent = queries::read(size, tree, &records[TABLE_AT..to], row, places, tag, r);
+    copy_row(size, lent, out)
 }
 
 // The row and its number, where it was read and fits. A buffer of another length is refused after unsound records and before a row.
-fn copy_row(
-    size: Size,
-    number: u8,
-    bytes: &[u8],
-    seen: usize,
-    out: &mut [u8],
-    sharers: &mut usize,
-) -> u8
-    requires { number ≡ 0 → length bytes.now ≡ size.width }
-    ensures { Copied size.width number bytes.now seen out.old result out.new sharers.new }
+fn copy_row(size: Size, read: Result<Lent, Refusal>, out: &mut [u8]) -> Result<usize, Refusal>
+    requires { answer_of read ≡ 0 → length (bytes_of read) ≡ size.width }
+    ensures { Copied size.width (answer_of read.entry) (bytes_of read.entry) (sharers_of read.entry) out.old (answer_of result) out.new (told_of result) }
 {
-    *sharers = 0;
-    if number == 20 {
-        return 20;
+    // By the number: a match on this one refusal tells the check nothing of the others.
+    if answers::answer_of(&read) == Refusal::Unsound.number() {
+        return Err(Refusal::Unsound);
     }
     if out.len() != size.width {
-        return 2;
+        return Err(Refusal::BadLength);
     }
-    if number != 0 {
-        return number;
+    match read {
+        Ok(lent) => {
+            placing::fill(out, lent.bytes);
+            Ok(lent.sharers)
+        }
+        Err(refusal) => Err(refusal),
     }
-    placing::fill(out, bytes);
-    *sharers = seen;
-    0
 }

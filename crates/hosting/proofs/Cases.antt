@@ -6,7 +6,8 @@ use mathlib.Core.List.{List, [], ◌∷◌, map}
 use Rattle.std.proofs.Math.Option.{none}
 use Rattle.basics.specs.Decide.{not_no}
 use Rattle.measures.specs.declared.Size.{Size}
-use Rattle.answers.specs.Answers.{bad_length, Answer}
+use Rattle.answers.specs.declared.Refusal.TheVariants.{BadLength}
+use Rattle.answers.specs.Answers.{Answer}
 use Rattle.answers.specs.Tests.{refusal, verdict_number, in_measure}
 use Rattle.answers.proofs.Laws.{refusal_next, refusal_none}
 use Rattle.model.specs.Call.{Call, one}
@@ -36,7 +37,7 @@ module _ (z : Size) where
   unfolding Alike host_answer host_after
   alike m (one (on_store.snapshot source new)) = (refl, refl)
   alike m (one (on_store.read tag r)) =
-      let v : room_verdict z (read tag r z.width) ≡ none = refusal_next bad_length [] (not_no (eq-eqb z.width z.width refl)) ∙ refusal_none in
+      let v : room_verdict z (read tag r z.width) ≡ none = refusal_next BadLength [] (not_no (eq-eqb z.width z.width refl)) ∙ refusal_none in
       (rw v, rw v)
   alike m (one (on_store.write tag r bs)) = (refl, refl)
   alike m (one (on_store.delete tag)) = (refl, refl)

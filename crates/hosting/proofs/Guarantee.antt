@@ -16,7 +16,9 @@ use Rattle.measures.specs.Measures.{Within}
 use Rattle.records.specs.Records.{Records, records_of, lives}
 use Rattle.model.specs.Call.{Call, one}
 use Rattle.model.specs.Call as on_store
-use Rattle.answers.specs.Answers.{Refusal, bad_size, bad_length, bad_row, unknown_tag, Answer, handed, row, refused_of, number}
+use Rattle.answers.specs.declared.Refusal.{Refusal}
+use Rattle.answers.specs.declared.Refusal.TheVariants.{BadSize, BadLength, BadRow, UnknownTag}
+use Rattle.answers.specs.Answers.{Answer, handed, row, refused_of, number}
 use Rattle.model.specs.Model.{Model, opened, reply, next}
 use Rattle.answers.specs.Tests.{refusal, unless, in_measure}
 use Rattle.answers.proofs.Laws.{refusal_here, refusal_next, refusal_none, refusal_passed, unless_made, measure_in, number_some}
@@ -87,7 +89,7 @@ reload_border b f n h old {b'} here same e s = by_cases (ℕ_discrete n 0)
 
 -- A read into as many bytes as a row has is a read
 
-passes : (p r t : Bool) → refusal ((p, bad_length) ∷ (false, bad_length) ∷ (r, bad_row) ∷ (t, unknown_tag) ∷ []) ≡ refusal ((p, bad_length) ∷ (r, bad_row) ∷ (t, unknown_tag) ∷ [])
+passes : (p r t : Bool) → refusal ((p, BadLength) ∷ (false, BadLength) ∷ (r, BadRow) ∷ (t, UnknownTag) ∷ []) ≡ refusal ((p, BadLength) ∷ (r, BadRow) ∷ (t, UnknownTag) ∷ [])
 unfolding refusal
 passes true r t = refl
 passes false r t = refl
@@ -110,12 +112,12 @@ answered z places tag r number bytes sharers h = h
 
 -- a read into any other number of bytes is refused with 2, and fills nothing
 wrong_room : (z : Records) (places out : List ℕ) (tag r : ℕ) → length places ≡ z.size.places * z.size.width → length out ≢ z.size.width
-    → refusal (read_tests z (length places) (length out) tag r) ≡ some bad_length
+    → refusal (read_tests z (length places) (length out) tag r) ≡ some BadLength
 unfolding read_tests
-wrong_room z places out tag r p w = refusal_next bad_length _ (not_no (eq-eqb _ _ p)) ∙ refusal_here bad_length _ (not_yes (ne_eqb _ _ w))
+wrong_room z places out tag r p w = refusal_next BadLength _ (not_no (eq-eqb _ _ p)) ∙ refusal_here BadLength _ (not_yes (ne_eqb _ _ w))
 
-unfilled : (v : Option Refusal) (bytes out out' : List ℕ) (seen sharers : ℕ) {answer : ℕ} → v ≡ some bad_length → Leaves {A = List ℕ × ℕ} v (out, 0) (bytes, seen) answer (out', sharers)
-    → handed answer (row_in answer out') (sharers ∷ []) ≡ refused_of 1 bad_length
+unfilled : (v : Option Refusal) (bytes out out' : List ℕ) (seen sharers : ℕ) {answer : ℕ} → v ≡ some BadLength → Leaves {A = List ℕ × ℕ} v (out, 0) (bytes, seen) answer (out', sharers)
+    → handed answer (row_in answer out') (sharers ∷ []) ≡ refused_of 1 BadLength
 unfolding row_in
 unfilled v bytes out out' seen sharers {answer} e l =
     let n : answer ≡ 2 = l.numbered ∙ rw e in
@@ -128,13 +130,13 @@ module _ (z : Size) (m : Model) where
   room_fits : (tag r n : ℕ) → n ≡ z.width → (host_answer z m (read tag r n) ≡ reply z m (one (on_store.read tag r))) × (host_after z m (read tag r n) ≡ next z m (one (on_store.read tag r)))
   unfolding host_answer host_after
   room_fits tag r n e =
-      let v : room_verdict z (read tag r n) ≡ none = refusal_next bad_length [] (not_no (eq-eqb n z.width e)) ∙ refusal_none in
+      let v : room_verdict z (read tag r n) ≡ none = refusal_next BadLength [] (not_no (eq-eqb n z.width e)) ∙ refusal_none in
       (rw v, rw v)
 
-  room_wrong : (tag r n : ℕ) → n ≢ z.width → (host_answer z m (read tag r n) ≡ refused_of 1 bad_length) × (host_after z m (read tag r n) ≡ m)
+  room_wrong : (tag r n : ℕ) → n ≢ z.width → (host_answer z m (read tag r n) ≡ refused_of 1 BadLength) × (host_after z m (read tag r n) ≡ m)
   unfolding host_answer host_after
   room_wrong tag r n e =
-      let v : room_verdict z (read tag r n) ≡ some bad_length = refusal_here bad_length [] (not_yes (ne_eqb n z.width e)) in
+      let v : room_verdict z (read tag r n) ≡ some BadLength = refusal_here BadLength [] (not_yes (ne_eqb n z.width e)) in
       (rw v, rw v)
 
 -- what is to be shown of one call from C
@@ -217,8 +219,8 @@ module _ (size : Size) where
 open_passed : (z : Size) (b places : List ℕ) → refusal (open_tests z (length b) (length places)) ≡ none → Within z × (length places ≡ z.places * z.width)
 unfolding open_tests
 open_passed z b places e =
-    let (a, e₁) = refusal_passed (not (in_measure z)) bad_size _ e in
-    let (c, e₂) = refusal_passed (not (eqb (length places) (z.places * z.width))) bad_length _ e₁ in
+    let (a, e₁) = refusal_passed (not (in_measure z)) BadSize _ e in
+    let (c, e₂) = refusal_passed (not (eqb (length places) (z.places * z.width))) BadLength _ e₁ in
     (measure_in z (not-false _ a), eqb-true _ _ (not-false _ c))
 
 first_runs : (z : Size) → Within z → Runs (first_records z) (replicate (z.places * z.width) 0) (opened z)

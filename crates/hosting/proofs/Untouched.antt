@@ -8,7 +8,8 @@ use Prim.Native.Nat.{ℕ, ◌<◌}
 use Rattle.basics.specs.Decide.{at}
 use Rattle.records.specs.Records.{lives}
 use Rattle.records.specs.Sound.{Sound}
-use Rattle.answers.specs.Answers.{Refusal, Answer}
+use Rattle.answers.specs.declared.Refusal.{Refusal}
+use Rattle.answers.specs.Answers.{Answer}
 use Rattle.answers.specs.Tests.{unless}
 use Rattle.soundness.specs.Judged.{Leaves, judged_sound}
 use Rattle.reads.specs.Reads.{row_of_tag}

@@ -3,7 +3,9 @@
 use Rattle.std.specs.Prelude.{not, List, [], ◌∷◌, ℕ, eqb}
 use Rattle.std.proofs.Math.Option.{Option, none}
 use Rattle.measures.specs.declared.Size.{Size}
-use Rattle.answers.specs.Answers.{Refusal, bad_length, Answer, refused_of}
+use Rattle.answers.specs.declared.Refusal.{Refusal}
+use Rattle.answers.specs.declared.Refusal.TheVariants.{BadLength}
+use Rattle.answers.specs.Answers.{Answer, refused_of}
 use Rattle.answers.specs.Tests.{refusal, unless}
 use Rattle.model.specs.Call.{Call, one}
 use Rattle.model.specs.Call as on_store
@@ -33,7 +35,7 @@ on_records count = one on_store.count
 -- the test of what is lent to be filled: as many bytes as a row has. It comes before the call's own
 abbrev pub room_verdict : Size → HostCall → Option Refusal
 room_verdict z (snapshot source new) = none
-room_verdict z (read tag r room) = refusal ((not (eqb room z.width), bad_length) ∷ [])
+room_verdict z (read tag r room) = refusal ((not (eqb room z.width), BadLength) ∷ [])
 room_verdict z (write tag r bs) = none
 room_verdict z (border tag rows bytes) = none
 room_verdict z (delete tag) = none

@@ -2,7 +2,7 @@
 // What lays returns the position behind it.
 #![tactic(auto)]
 
-ghost use Rattle.std.specs.Prelude.{◌≡◌, [], ◌∷◌, ◌+◌, ◌*◌, ◌/◌, ◌%◌, ◌≤◌, ◌<◌, length, replicate};
+ghost use Rattle.std.specs.Prelude.{◌≡◌, [], ◌∷◌, ◌+◌, ◌*◌, ◌≤◌, ◌<◌, length, replicate};
 ghost use Rattle.laying.specs.Laid.{Lays, pairs, numbers, pair_at};
 ghost use Rattle.laying.specs.Laws.{Loading, Same, Stops};
 
@@ -29,21 +29,8 @@ pub fn lay(out: &mut [u8], at: usize, bytes: &[u8]) -> usize
     ensures { Lays out.old at bytes.now out.new result }
 {
     let to = at + bytes.len();
-    placing::fill(&mut out[at..to], bytes);
+    out[at..to].copy_from_slice(bytes);
     to
-}
-
-// The two bytes of a number.
-fn high(x: u16) -> u8
-    ensures { result ≡ x / 256 }
-{
-    (x / 256) as u8
-}
-
-fn low(x: u16) -> u8
-    ensures { result ≡ x % 256 }
-{
-    (x % 256) as u8
 }
 
 pub fn lay_numbers(out: &mut [u8], at: usize, xs: &[u16]) -> usize
@@ -51,22 +38,11 @@ pub fn lay_numbers(out: &mut [u8], at: usize, xs: &[u16]) -> usize
     ensures { Lays out.old at (pairs xs.now) out.new result }
 {
     let mut to = at;
-    let mut i: usize = 0;
-    while i < xs.len() {
-        to = two(out, to, high(xs[i]), low(xs[i]));
-        i += 1;
+    for x in xs {
+        let [high, low] = x.to_be_bytes();
+        to = two(out, to, high, low);
     }
     to
-}
-
-// The number that bytes begin with.
-fn first_number(bytes: &[u8]) -> u16
-    requires { 1 < length bytes.now }
-    ensures { result ≡ pair_at bytes.now 0 }
-{
-    let high = bytes[0] as u16;
-    let low = bytes[1] as u16;
-    high * 256 + low
 }
 
 // The number that begins at p. Its two bytes are read from a part of their own, so that the compiler reads them at once.
@@ -74,8 +50,8 @@ pub fn number(bytes: &[u8], p: usize) -> u16
     requires { p + 1 < length bytes.now }
     ensures { result ≡ pair_at bytes.now p }
 {
-    let to = p + 2;
-    first_number(&bytes[p..to])
+    let pair = &bytes[p..p + 2];
+    u16::from_be_bytes([pair[0], pair[1]])
 }
 
 // The numbers from one position to another, those before being loaded.
@@ -83,10 +59,8 @@ fn load_stretch(bytes: &[u8], to: &mut [u16], from: usize, end: usize)
     requires { (from ≤ end) × (end ≤ length to.old) × Loading bytes.now to.old from }
     ensures { Loading bytes.now to.new end × Same to.old to.new end }
 {
-    let mut i = from;
-    while i < end {
+    for i in from..end {
         to[i] = number(bytes, 2 * i);
-        i += 1;
     }
 }
 
@@ -105,9 +79,10 @@ fn few_to(bytes: &[u8]) -> usize
     ensures { Stops bytes.now result }
 {
     if scanning::zero_part(bytes, 32, 256) {
-        return 16;
+        16
+    } else {
+        128
     }
-    128
 }
 
 // Every number of the bytes, of which most are 0, as those are that are there: stretches of 16 numbers that are 0 are passed as a whole.
@@ -115,15 +90,10 @@ pub fn load_few(bytes: &[u8], to: &mut [u16])
     requires { (length bytes.now ≡ 256) × (length to.old ≡ 128) × Same (replicate 128 0) to.old 0 }
     ensures { to.new ≡ numbers bytes.now }
 {
-    let stop = few_to(bytes);
-    let mut n: usize = 0;
-    while n < stop {
-        let end = n + 16;
-        let first = 2 * n;
-        let last = 2 * end;
-        if !scanning::zero_part(bytes, first, last) {
-            load_stretch(bytes, to, n, end);
+    for j in 0..few_to(bytes) / 16 {
+        let n = 16 * j;
+        if !scanning::zero_part(bytes, 2 * n, 2 * n + 32) {
+            load_stretch(bytes, to, n, n + 16);
         }
-        n = end;
     }
 }

@@ -22,13 +22,10 @@ pub fn size(records: &[u8]) -> Size
     requires { table_at ≤ length records.now }
     ensures { result ≡ size_at records.now }
 {
-    let rows = widen::pair(laying::number(records, 0));
-    let width = widen::pair(laying::number(records, 2));
-    let places = widen::pair(laying::number(records, 4));
     Size {
-        rows,
-        width,
-        places,
+        rows: usize::from(laying::number(records, 0)),
+        width: usize::from(laying::number(records, 2)),
+        places: usize::from(laying::number(records, 4)),
     }
 }
 
@@ -48,13 +45,7 @@ pub fn fits(records: &[u8]) -> bool
         return false;
     }
     let size = size(records);
-    if !measures::within(size) {
-        return false;
-    }
-    if records.len() != records_size(size) {
-        return false;
-    }
-    true
+    measures::within(size) && records.len() == records_size(size)
 }
 
 // How many entries the table has.

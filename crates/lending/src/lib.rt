@@ -1,4 +1,4 @@
-// The tree lent by `&mut`: each call takes the record apart, and a function by value does the work.
+// The tree lent by `&mut`: each call changes it where it stands.
 #![tactic(auto)]
 
 ghost use Rattle.std.specs.Prelude.{◌≡◌, ◌<◌};
@@ -17,73 +17,36 @@ pub struct Node {
     pub parent: u8,
 }
 
-// A node, and the one that it is to hang under.
-#[derive(Clone, Copy)]
-pub struct Link {
-    pub child: usize,
-    pub parent: usize,
-}
-
-// A node's number alone.
-#[derive(Clone, Copy)]
-pub struct Spot(pub usize);
-
 // A node's state, tag and parent are set.
-fn filled(tree: Tree, node: Node) -> Tree
-    requires { node.number < 128 }
-    ensures { result ≡ filled tree node }
-{
-    let mut t = tree;
-    let n = node.number;
-    t.state[n] = node.state;
-    t.tag[n] = node.tag;
-    t.parent[n] = node.parent;
-    t
-}
-
 pub fn fill(tree: &mut Tree, node: Node)
     requires { node.number < 128 }
     ensures { tree.new ≡ filled tree.old node }
 {
-    *tree = filled(*tree, node);
+    tree.state[node.number] = node.state;
+    tree.tag[node.number] = node.tag;
+    tree.parent[node.number] = node.parent;
 }
 
 // A node gets another parent.
-fn hung(tree: Tree, link: Link) -> Tree
-    requires { (link.child < 128) × (link.parent < 128) }
-    ensures { result ≡ hung tree link.child link.parent }
+pub fn hang(tree: &mut Tree, child: usize, parent: usize)
+    requires { (child < 128) × (parent < 128) }
+    ensures { tree.new ≡ hung tree.old child parent }
 {
-    let c = link.child;
-    let p = link.parent;
-    nodes::hung(tree, c, p)
-}
-
-pub fn hang(tree: &mut Tree, link: Link)
-    requires { (link.child < 128) × (link.parent < 128) }
-    ensures { tree.new ≡ hung tree.old link.child link.parent }
-{
-    *tree = hung(*tree, link);
+    *tree = nodes::hung(*tree, child, parent);
 }
 
 // A node becomes empty.
-fn emptied(tree: Tree, spot: Spot) -> Tree
-    requires { spot.0 < 128 }
-    ensures { result ≡ emptied tree spot.0 }
+pub fn empty(tree: &mut Tree, n: usize)
+    requires { n < 128 }
+    ensures { tree.new ≡ emptied tree.old n }
 {
-    filled(
+    fill(
         tree,
         Node {
-            number: spot.0,
+            number: n,
             state: 0,
             tag: 0,
             parent: 0,
         },
-    )
-}
-
-pub fn empty(tree: &mut Tree, spot: Spot)
-    requires { spot.0 < 128 }
-    ensures { tree.new ≡ emptied tree.old spot.0 }
-{
-    *tree = emptied(*tree, spot);
+    );
 }

@@ -21,7 +21,7 @@ unfolding printed
 printed_short s l y = rw (le-ltb 4096 (length s) l) y
 
 -- buffers of the right lengths are opened
-opens : (places node row : List ℕ) → length places ≡ 48 → length node ≡ 2 → length row ≡ 2 → open_verdict program_size places node row ≡ none
+pub opens : (places node row : List ℕ) → length places ≡ 48 → length node ≡ 2 → length row ≡ 2 → open_verdict program_size places node row ≡ none
 unfolding open_verdict refusal open_tests in_measure
 opens places node row p n r = rw (p, n, r)
 

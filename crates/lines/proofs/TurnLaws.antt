@@ -10,7 +10,8 @@ use native.Mathlib.Omega.{arith}
 use Rattle.std.proofs.Math.ListN.{length}
 use Rattle.measures.specs.declared.Size.{Size}
 use Rattle.records.specs.Records.{Records}
-use Rattle.answers.specs.Answers.{Refusal, Answer, refused, number}
+use Rattle.answers.specs.declared.Refusal.{Refusal}
+use Rattle.answers.specs.Answers.{Answer, refused, number}
 use Rattle.answers.proofs.Laws.{number_some}
 use Rattle.model.specs.Call.{Call}
 use Rattle.model.specs.Model.{Model, answers, final, reply, next as model_after}

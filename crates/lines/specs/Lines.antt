@@ -2,7 +2,8 @@
 use Rattle.std.specs.Prelude.{List, [], ◌∷◌, ◌++◌, ℕ, suc, ◌+◌, length}
 use Rattle.std.proofs.Math.Option.{Option, none, some}
 use Rattle.measures.specs.declared.Size.{Size}
-use Rattle.answers.specs.Answers.{Refusal, Answer, refused}
+use Rattle.answers.specs.declared.Refusal.{Refusal}
+use Rattle.answers.specs.Answers.{Answer, refused}
 use Rattle.model.specs.Model.{Model, answers}
 use Rattle.text.specs.Text.{answer_line}
 use Rattle.commands.specs.Format.{refusal_of, calls_from, end_from}

@@ -1,7 +1,8 @@
 -- The promise of a run. Definitions only. Assumes nothing.
 use Rattle.std.specs.Prelude.{◌≡◌, ◌≢◌, not, List, [], ◌∷◌, ℕ, ◌*◌, eqb, ltb, length}
 use Rattle.records.specs.Records.{Records}
-use Rattle.answers.specs.Answers.{bad_length, long_stream, unsound, number}
+use Rattle.answers.specs.declared.Refusal.TheVariants.{BadLength, LongStream, Unsound}
+use Rattle.answers.specs.Answers.{number}
 use Rattle.answers.specs.Tests.{Tests, refusal, verdict_number}
 use Rattle.model.specs.Model.{Model}
 use Rattle.soundness.specs.Judged.{Judged}
@@ -15,9 +16,9 @@ use Rattle.lines.specs.Output.{RanAll}
 -- by the lengths of the places, of the stream and of what is lent for the text
 unfoldable pub run_tests : Records → ℕ → ℕ → ℕ → Tests
 run_tests z places stream out =
-    (not (eqb places (z.size.places * z.size.width)), bad_length)
-    ∷ (ltb 4096 stream, long_stream)
-    ∷ (ltb out (line_room z.size.width * stream), bad_length)
+    (not (eqb places (z.size.places * z.size.width)), BadLength)
+    ∷ (ltb 4096 stream, LongStream)
+    ∷ (ltb out (line_room z.size.width * stream), BadLength)
     ∷ []
 
 pub record Kept (z : Records) (places out : List ℕ) (z' : Records) (places' out' : List ℕ) (to : ℕ) : Type 0 where
@@ -33,4 +34,4 @@ pub record StreamRun (z : Records) (places s out : List ℕ) (answer : ℕ) (z' 
 
 abbrev pub StreamEnds : Records → List ℕ → List ℕ → List ℕ → ℕ → Records → List ℕ → List ℕ → ℕ → Type 0
 StreamEnds z places s out answer z' places' out' to =
-    Judged z (StreamRun z places s out answer z' places' out' to) ((answer ≡ number unsound) × Kept z places out z' places' out' to)
+    Judged z (StreamRun z places s out answer z' places' out' to) ((answer ≡ number Unsound) × Kept z places out z' places' out' to)

@@ -2,6 +2,9 @@
 use Rattle.std.specs.Prelude.{◌≡◌, ◌≢◌, List, ℕ, ◌+◌, ◌*◌, ◌≤◌, ◌<◌, length, set, take}
 use Rattle.std.proofs.Common.{sym, ◌∙◌, ap, arith, length-set, get_or-set_same, get_or-set_other, get_or-take, length-take-le}
 use Rattle.std.proofs.Math.Logic.{by_cases}
+use Rattle.std.proofs.Math.Path.{PathP, to_path_p}
+use Rattle.std.specs.Coded.{Π_prop, →_prop}
+use Rattle.std.proofs.Props.{props}
 use Rattle.std.proofs.Math.Decide.{ℕ_discrete, dec_lt}
 use Rattle.basics.specs.Decide.{at}
 use Rattle.faults.specs.Faults.{Below}
@@ -96,3 +99,28 @@ listing_idle state xs k n to l f = listing_past state xs k n to l (λ m a b z u.
 -- what holds at every position of the list holds of every node in use
 pub listed_all : {state xs : List ℕ} → Listed state xs → (P : ℕ → Type 0) → Below (λ j. P (at xs j)) (length xs) → (n : ℕ) → n ≢ 0 → n < 128 → at state n ≢ 0 → P n
 listed_all h P f n z l u = let (j, b, e) = h.all n z l u in rw (← e) (f j b)
+
+-- The list as a value of its own: what it says has one proof, since no node stands twice
+
+-- the position of a node, where all numbers are apart
+pub position_prop : (xs : List ℕ) → ((i j : ℕ) → i < length xs → j < length xs → at xs i ≡ at xs j → i ≡ j) → (n : ℕ) → IsProp ((j : ℕ) × (j < length xs) × (at xs j ≡ n))
+position_prop xs h n u v = λ i. (p i, q i, r i)
+  where
+    p : u.0 ≡ v.0
+    p = h u.0 v.0 u.1 v.1 (u.2 ∙ sym v.2)
+
+    low : IsProp (v.0 < length xs)
+    low = hlevel props
+
+    here : IsProp (at xs v.0 ≡ n)
+    here = hlevel props
+
+    q : PathP (λ i. p i < length xs) u.1 v.1
+    q = to_path_p (λ i. p i < length xs) (low _ _)
+
+    r : PathP (λ i. at xs (p i) ≡ n) u.2 v.2
+    r = to_path_p (λ i. at xs (p i) ≡ n) (here _ _)
+
+pub all_prop : (state xs : List ℕ) → ((i j : ℕ) → i < length xs → j < length xs → at xs i ≡ at xs j → i ≡ j)
+    → IsProp ((n : ℕ) → n ≢ 0 → n < 128 → at state n ≢ 0 → (j : ℕ) × (j < length xs) × (at xs j ≡ n))
+all_prop state xs h = Π_prop (λ n. →_prop (→_prop (→_prop (position_prop xs h n))))

@@ -6,7 +6,7 @@ ghost use Rattle.basics.specs.Decide.{Decides};
 ghost use Rattle.measures.specs.Measures.{Within, begins_at};
 
 // L rows of B bytes, in P places.
-#[derive(Clone, Copy)]
+#[derive(Clone, Copy, PartialEq, Eq)]
 pub struct Size {
     pub rows: usize,
     pub width: usize,
@@ -14,46 +14,27 @@ pub struct Size {
 }
 
 // A row of a version, counted from 0.
-#[derive(Clone, Copy)]
+#[derive(Clone, Copy, PartialEq, Eq)]
 pub struct Row(pub usize);
 
 // A place of the lent buffer, counted from 0.
-#[derive(Clone, Copy)]
+#[derive(Clone, Copy, PartialEq, Eq)]
 pub struct Place(pub usize);
 
 // Is each measure within its limits?
 pub fn within(size: Size) -> bool
     ensures { Decides result (Within size) }
 {
-    if size.rows < 1 {
-        return false;
-    }
-    if size.rows > 1024 {
-        return false;
-    }
-    if size.width < 1 {
-        return false;
-    }
-    if size.width > 1024 {
-        return false;
-    }
-    if size.places < size.rows {
-        return false;
-    }
-    if size.places > 4096 {
-        return false;
-    }
-    true
+    (1..=1024).contains(&size.rows)
+        && (1..=1024).contains(&size.width)
+        && (size.rows..=4096).contains(&size.places)
 }
 
 // Is there such a row?
 pub fn has_row(rows: usize, row: Row) -> bool
     ensures { Decides result (row.0 < rows) }
 {
-    if row.0 < rows {
-        return true;
-    }
-    false
+    row.0 < rows
 }
 
 // Where the origin's row is kept for good.
@@ -61,16 +42,6 @@ pub fn home(row: Row) -> Place
     ensures { result.0 ≡ row.0 }
 {
     Place(row.0)
-}
-
-// Are the two the same place?
-pub fn same_place(p: Place, q: Place) -> bool
-    ensures { Decides result (p.0 ≡ q.0) }
-{
-    if p.0 == q.0 {
-        return true;
-    }
-    false
 }
 
 // A row's number as the table holds it.

@@ -7,7 +7,9 @@ use Rattle.measures.specs.Measures.{rows_with}
 use Rattle.copies.specs.Copies.{Cell, Copies, alive, snapshots_alive, shared, sharers, places_used, without, fresh, copied, saved}
 use Rattle.basics.specs.Equal.{equal}
 use Rattle.model.specs.Call.{Single, snapshot, read, write, delete, count, Call, one, border}
-use Rattle.answers.specs.Answers.{Refusal, bad_length, bad_row, zero_tag, origin_tag, unknown_tag, tag_alive, snapshots_full, places_full, too_many_rows, Answer, done, row, counts, refused_of}
+use Rattle.answers.specs.declared.Refusal.{Refusal}
+use Rattle.answers.specs.declared.Refusal.TheVariants.{BadLength, BadRow, ZeroTag, OriginTag, UnknownTag, TagAlive, SnapshotsFull, PlacesFull, TooManyRows}
+use Rattle.answers.specs.Answers.{Answer, done, row, counts, refused_of}
 use Rattle.answers.specs.Tests.{Tests, refusal, unless}
 use Rattle.answers.specs.InOrder.{Ended, stopped, in_order, ended_with}
 
@@ -22,12 +24,12 @@ pub record Model : Type 0 where
 module _ (z : Size) (tags : List ℕ) (mark : Cell → ℕ) (bytes : Cell → List ℕ) where
   unfoldable pub tests : Single → Tests
   tests (snapshot s t) =
-      (eqb t 0, zero_tag) ∷ (not (alive tags s), unknown_tag) ∷ (alive tags t, tag_alive) ∷ (leb 64 (snapshots_alive tags), snapshots_full) ∷ []
-  tests (read t r) = (leb z.rows r, bad_row) ∷ (not (alive tags t), unknown_tag) ∷ []
+      (eqb t 0, ZeroTag) ∷ (not (alive tags s), UnknownTag) ∷ (alive tags t, TagAlive) ∷ (leb 64 (snapshots_alive tags), SnapshotsFull) ∷ []
+  tests (read t r) = (leb z.rows r, BadRow) ∷ (not (alive tags t), UnknownTag) ∷ []
   tests (write t r bs) =
-      (not (eqb (length bs) z.width), bad_length) ∷ (leb z.rows r, bad_row) ∷ (not (alive tags t), unknown_tag)
-      ∷ (shared tags mark t r && leb z.places (places_used z.rows tags mark) && not (equal bs (bytes (t, r))), places_full) ∷ []
-  tests (delete t) = (eqb t 0, origin_tag) ∷ (not (alive tags t), unknown_tag) ∷ []
+      (not (eqb (length bs) z.width), BadLength) ∷ (leb z.rows r, BadRow) ∷ (not (alive tags t), UnknownTag)
+      ∷ (shared tags mark t r && leb z.places (places_used z.rows tags mark) && not (equal bs (bytes (t, r))), PlacesFull) ∷ []
+  tests (delete t) = (eqb t 0, OriginTag) ∷ (not (alive tags t), UnknownTag) ∷ []
   tests count = []
 
   -- the answer of a call that is accepted
@@ -73,7 +75,7 @@ module _ (z : Size) where
 
   -- a border: its own tests, then single writes in the order of its rows, ending before the first that is refused
   unfoldable pub border_tests : List ℕ → ℕ → List ℕ → List ℕ → Tests
-  border_tests tags t rs bs = (leb 65 (length rs), too_many_rows) ∷ (not (eqb (length bs) (length rs * z.width)), bad_length) ∷ (not (alive tags t), unknown_tag) ∷ []
+  border_tests tags t rs bs = (leb 65 (length rs), TooManyRows) ∷ (not (eqb (length bs) (length rs * z.width)), BadLength) ∷ (not (alive tags t), UnknownTag) ∷ []
 
   unfoldable pub bordered : Model → ℕ → List ℕ → List ℕ → Ended Model
   bordered m t rs bs = unless (refusal (border_tests m.snapshots t rs bs)) (stopped m)

@@ -5,7 +5,8 @@ use Rattle.basics.specs.Equal.{equal}
 use Rattle.measures.specs.declared.Size.{Size}
 use Rattle.measures.specs.Measures.{rows_with}
 use Rattle.model.specs.Call.{Single, one, border, snapshot, read, write, delete, count}
-use Rattle.answers.specs.Answers.{bad_size, bad_length, handed, done, row, counts, refused_of, refused, bad_row, zero_tag, origin_tag, unknown_tag, tag_alive, snapshots_full, places_full}
+use Rattle.answers.specs.declared.Refusal.TheVariants.{BadSize, BadLength, BadRow, ZeroTag, OriginTag, UnknownTag, TagAlive, SnapshotsFull, PlacesFull}
+use Rattle.answers.specs.Answers.{handed, done, row, counts, refused_of, refused}
 use Rattle.copies.specs.Copies.{any, only, different, alive, snapshots_alive, without, shared, sharers, places_used, adopt, put}
 use Rattle.model.specs.Model.{tests, accepted, effect, opened, verdict, answer, after, border_tests, bordered, reply, next, answers, final}
 use Rattle.answers.specs.Tests.{refusal, in_measure, open_tests}
@@ -23,7 +24,7 @@ stream = snapshot 0 7 ∷ write 0 2 (eight 0xa1) ∷ read 7 2 ∷ read 0 2 ∷ c
 
 -- the eight lines of SPEC 9.4
 worked : answers small (opened small) (map one stream)
-    ≡ done ∷ done ∷ row (eight 0) 1 ∷ row (eight 0xa1) 1 ∷ counts 5 1 ∷ done ∷ counts 4 0 ∷ refused_of 1 unknown_tag ∷ []
+    ≡ done ∷ done ∷ row (eight 0) 1 ∷ row (eight 0xa1) 1 ∷ counts 5 1 ∷ done ∷ counts 4 0 ∷ refused_of 1 UnknownTag ∷ []
 unfolding equal stream eight any only different alive snapshots_alive shared sharers places_used refusal tests accepted adopt put without effect opened verdict answer after reply next answers
 worked = refl
 
@@ -33,7 +34,7 @@ tiny = record { rows = 2; width = 1; places = 3 }
 
 refusals : answers tiny (opened tiny)
     (map one (snapshot 0 7 ∷ write 0 1 (5 ∷ []) ∷ write 7 0 (9 ∷ []) ∷ snapshot 0 0 ∷ snapshot 8 8 ∷ snapshot 7 7 ∷ read 0 2 ∷ read 8 0 ∷ write 0 0 [] ∷ write 0 2 [] ∷ delete 0 ∷ delete 8 ∷ write 0 1 (5 ∷ []) ∷ count ∷ []))
-    ≡ done ∷ done ∷ refused places_full ∷ refused zero_tag ∷ refused unknown_tag ∷ refused tag_alive ∷ refused_of 1 bad_row ∷ refused_of 1 unknown_tag ∷ refused bad_length ∷ refused bad_length ∷ refused origin_tag ∷ refused unknown_tag ∷ done ∷ counts 3 1 ∷ []
+    ≡ done ∷ done ∷ refused PlacesFull ∷ refused ZeroTag ∷ refused UnknownTag ∷ refused TagAlive ∷ refused_of 1 BadRow ∷ refused_of 1 UnknownTag ∷ refused BadLength ∷ refused BadLength ∷ refused OriginTag ∷ refused UnknownTag ∷ done ∷ counts 3 1 ∷ []
 unfolding equal any only different alive snapshots_alive shared sharers places_used refusal tests accepted adopt put without effect opened verdict answer after reply next answers
 refusals = refl
 
@@ -47,13 +48,13 @@ copies = refl
 numbers : answers tiny (opened tiny)
     (map one (read 0 0 ∷ snapshot 0 7 ∷ snapshot 7 8 ∷ read 0 0 ∷ read 7 0 ∷ read 8 0 ∷ write 7 0 (5 ∷ []) ∷ read 0 0 ∷ read 7 0 ∷ read 8 0 ∷ read 7 1 ∷ delete 8 ∷ read 0 0 ∷ read 7 1 ∷ read 8 0 ∷ []))
     ≡ row (0 ∷ []) 1 ∷ done ∷ done ∷ row (0 ∷ []) 3 ∷ row (0 ∷ []) 3 ∷ row (0 ∷ []) 3 ∷ done ∷ row (0 ∷ []) 2 ∷ row (5 ∷ []) 1 ∷ row (0 ∷ []) 2 ∷ row (0 ∷ []) 3
-    ∷ done ∷ row (0 ∷ []) 1 ∷ row (0 ∷ []) 2 ∷ refused_of 1 unknown_tag ∷ []
+    ∷ done ∷ row (0 ∷ []) 1 ∷ row (0 ∷ []) 2 ∷ refused_of 1 UnknownTag ∷ []
 unfolding equal any only different alive snapshots_alive shared sharers places_used refusal tests accepted adopt put without effect opened verdict answer after reply next answers
 numbers = refl
 
 -- a row written as it is keeps its mark: the origin's that is shared, and a snapshot's in a full store, where other bytes are refused
 untouched : answers tiny (opened tiny) (map one (snapshot 0 7 ∷ write 0 0 (0 ∷ []) ∷ count ∷ write 7 1 (9 ∷ []) ∷ write 7 0 (0 ∷ []) ∷ write 7 0 (9 ∷ []) ∷ count ∷ []))
-    ≡ done ∷ done ∷ counts 2 1 ∷ done ∷ done ∷ refused places_full ∷ counts 3 1 ∷ []
+    ≡ done ∷ done ∷ counts 2 1 ∷ done ∷ done ∷ refused PlacesFull ∷ counts 3 1 ∷ []
 unfolding equal any only different alive snapshots_alive shared sharers places_used refusal tests accepted adopt put without effect opened verdict answer after reply next answers
 untouched = refl
 
@@ -72,13 +73,13 @@ snapshots_of_origin zero = []
 snapshots_of_origin (suc n) = snapshot 0 (suc n) ∷ snapshots_of_origin n
 
 -- the 65th snapshot is refused
-too_many : answer tiny (final tiny (opened tiny) (map one (snapshots_of_origin 64))) (snapshot 0 99) ≡ refused snapshots_full
+too_many : answer tiny (final tiny (opened tiny) (map one (snapshots_of_origin 64))) (snapshot 0 99) ≡ refused SnapshotsFull
 unfolding equal snapshots_of_origin any only different alive snapshots_alive shared sharers places_used refusal tests accepted adopt put without effect opened verdict answer after next final
 too_many = refl
 
 -- opening: L = 4, B = 8, P = 6 with its buffers; L = 0; P below L; a byte of the places missing; an entry of the table missing
 opens : map (λ (t : ℕ × (ℕ × ℕ)). refusal (open_tests (record { rows = t.0; width = 8; places = 6 }) t.1.0 t.1.1 t.1.1))
     ((4, (48, 2)) ∷ (0, (48, 6)) ∷ (7, (48, 0)) ∷ (4, (47, 2)) ∷ (4, (48, 1)) ∷ [])
-    ≡ none ∷ some bad_size ∷ some bad_size ∷ some bad_length ∷ some bad_length ∷ []
+    ≡ none ∷ some BadSize ∷ some BadSize ∷ some BadLength ∷ some BadLength ∷ []
 unfolding refusal open_tests in_measure
 opens = refl

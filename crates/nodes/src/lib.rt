@@ -4,100 +4,75 @@
 ghost use Rattle.std.specs.Prelude.{◌≡◌, ◌≢◌, ℕ, ◌<◌};
 ghost use Rattle.std.proofs.Math.Option.{some};
 ghost use Rattle.basics.specs.Decide.{Decides};
-ghost use Rattle.trees.specs.Trees.{tree_of, Child, nodes_used, children};
+ghost use Rattle.trees.specs.Trees.{Child, nodes_used, children};
 ghost use Rattle.tree.specs.Rules.{found_of};
 ghost use Rattle.edits.specs.Edits.{grown, hung, split};
 ghost use Rattle.nodes.specs.Nodes.{empty_node, first_child};
 
-use tree::Found;
 use trees::Tree;
 
+// A tree, and a node of it.
+#[derive(Clone, Copy)]
+pub struct Stand {
+    pub tree: Tree,
+    pub node: usize,
+}
+
 // The first empty node, of a tree that has one.
-pub fn empty_node<'a>(state: &'a [u8; 128], tag: &'a [u16; 128], parent: &'a [u8; 128]) -> usize
-    requires { nodes_used (tree_of state.now tag.now parent.now) < 128 }
-    ensures { empty_node (tree_of state.now tag.now parent.now) ≡ some result }
+pub fn empty_node(tree: &Tree) -> usize
+    requires { nodes_used tree.now < 128 }
+    ensures { empty_node tree.now ≡ some result }
 {
-    let mut n: usize = 0;
-    while n < 128 {
-        if state[n] == 0 {
+    for n in 0..128 {
+        if tree.state[n] == 0 {
             return n;
         }
-        n += 1;
     }
-    n
+    128
 }
 
 // Is a node in use, and its parent a certain one? The numbers are compared in a function of their own, so that the loop that asks has no branch left.
 fn hangs(s: u8, p: u8, above: u8) -> bool
     ensures { Decides result ((s ≢ 0) × (p ≡ above)) }
 {
-    if s == 0 {
-        return false;
-    }
-    if p != above {
-        return false;
-    }
-    true
+    s != 0 && p == above
 }
 
 // Has a node no child? Children are counted in a loop that is never left early: so the compiler takes many nodes at once.
-pub fn childless<'a>(
-    state: &'a [u8; 128],
-    tag: &'a [u16; 128],
-    parent: &'a [u8; 128],
-    v: usize,
-) -> bool
+pub fn childless(tree: &Tree, v: usize) -> bool
     requires { v < 128 }
-    ensures { Decides result ((c : ℕ) → Child (tree_of state.now tag.now parent.now) v c → ⊥) }
+    ensures { Decides result ((c : ℕ) → Child tree.now v c → ⊥) }
 {
     let wanted = v as u8;
     let mut children: u8 = 0;
-    let mut n: usize = 1;
-    while n < 128 {
-        if hangs(state[n], parent[n], wanted) {
+    for n in 1..128 {
+        if hangs(tree.state[n], tree.parent[n], wanted) {
             children += 1;
         }
-        n += 1;
     }
     children == 0
 }
 
 // The first child of a node, node by node.
-fn first_child<'a>(
-    state: &'a [u8; 128],
-    tag: &'a [u16; 128],
-    parent: &'a [u8; 128],
-    p: usize,
-) -> Found
-    ensures { result ≡ found_of (first_child (tree_of state.now tag.now parent.now) p) }
+fn first_child(tree: &Tree, p: usize) -> Option<usize>
+    ensures { result ≡ found_of (first_child tree.now p) }
 {
-    let mut n: usize = 1;
-    while n < 128 {
-        if state[n] != 0 {
-            if widen::byte(parent[n]) == p {
-                return Found::At(n);
-            }
+    for n in 1..128 {
+        if tree.state[n] != 0 && usize::from(tree.parent[n]) == p {
+            return Some(n);
         }
-        n += 1;
     }
-    Found::Missing
+    None
 }
 
 // The first child of a node. That there is none is soon told.
-pub fn child<'a>(
-    state: &'a [u8; 128],
-    tag: &'a [u16; 128],
-    parent: &'a [u8; 128],
-    p: usize,
-) -> Found
-    ensures { result ≡ found_of (first_child (tree_of state.now tag.now parent.now) p) }
+pub fn child(tree: &Tree, p: usize) -> Option<usize>
+    ensures { result ≡ found_of (first_child tree.now p) }
 {
-    if p < 128 {
-        if childless(state, tag, parent, p) {
-            return Found::Missing;
-        }
+    if p < 128 && childless(tree, p) {
+        return None;
     }
-    first_child(state, tag, parent, p)
+    first_child(tree, p)
 }
 
 // A new living node m, with a tag, under node p.
@@ -135,23 +110,14 @@ pub fn split(mut tree: Tree, v: usize, m: usize) -> Tree
 }
 
 // How many children a node has.
-pub fn children<'a>(
-    state: &'a [u8; 128],
-    tag: &'a [u16; 128],
-    parent: &'a [u8; 128],
-    p: usize,
-) -> usize
-    ensures { result ≡ children (tree_of state.now tag.now parent.now) p }
+pub fn children(tree: &Tree, p: usize) -> usize
+    ensures { result ≡ children tree.now p }
 {
     let mut sum: usize = 0;
-    let mut n: usize = 1;
-    while n < 128 {
-        if state[n] != 0 {
-            if widen::byte(parent[n]) == p {
-                sum += 1;
-            }
+    for n in 1..128 {
+        if tree.state[n] != 0 && usize::from(tree.parent[n]) == p {
+            sum += 1;
         }
-        n += 1;
     }
     sum
 }

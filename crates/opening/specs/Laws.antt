@@ -1,42 +1,19 @@
--- The two ways out of opening, and zeros written one by one. Assumes nothing.
-use Rattle.std.specs.Prelude.{◌≡◌, refl, Bool, not, ℕ, ◌+◌, ◌-◌, ◌*◌, ◌≤◌, ◌<◌, length, replicate, set, eqb}
-use Rattle.std.proofs.Common.{sym, ◌∙◌, arith, length-set, ext_get_or, get_or-set_same, get_or-set_other, eq-eqb, ne_eqb}
-use Rattle.std.proofs.Math.Logic.{by_cases}
+-- The two ways out of opening. Assumes nothing.
+use Rattle.std.specs.Prelude.{◌≡◌, refl, Bool, not, ℕ, ◌-◌, ◌*◌, length, replicate, eqb}
+use Rattle.std.proofs.Common.{◌∙◌, eq-eqb, ne_eqb}
 use Rattle.std.proofs.Math.Bool.{true, false}
 use mathlib.Core.List.{List, [], ◌∷◌}
 use Rattle.std.proofs.Math.Option.{none, some}
-use Rattle.std.proofs.Math.Decide.{ℕ_discrete}
-use Rattle.std.proofs.lemmas.List.{length-replicate, get_or-replicate}
-use Rattle.basics.specs.Decide.{at, not_yes, not_no}
+use Rattle.basics.specs.Decide.{not_yes, not_no}
 use Rattle.measures.specs.declared.Size.{Size}
 use Rattle.measures.specs.Measures.{Within}
 use Rattle.trees.specs.declared.Tree.{Tree}
-use Rattle.answers.specs.Answers.{Refusal, bad_size, bad_length, number}
+use Rattle.answers.specs.declared.Refusal.{Refusal}
+use Rattle.answers.specs.declared.Refusal.TheVariants.{BadSize, BadLength}
+use Rattle.answers.specs.Answers.{number}
 use Rattle.answers.specs.Tests.{Tests, refusal, open_tests, in_measure}
 use Rattle.answers.proofs.Laws.{refusal_here, refusal_next, refusal_none, in_measure_lem, measure_in}
 use Rattle.opening.specs.Opening.{no_tree, first_tree, open_verdict, Opening}
-
--- a list xs of which the numbers below i have been cleared
-pub record Clearing (xs ys : List ℕ) (i : ℕ) : Type 0 where
-  pub most : i ≤ length xs
-  pub size : length ys ≡ length xs
-  pub zero : (k : ℕ) → k < i → at ys k ≡ 0
-
-pub clear_start : (xs : List ℕ) → Clearing xs xs 0
-clear_start xs = record { most = omega arith; size = refl; zero = λ k l. absurd (omega arith) }
-
-pub clear_next : (xs ys : List ℕ) (i : ℕ) → i < length ys → Clearing xs ys i → Clearing xs (set ys i 0) (i + 1)
-clear_next xs ys i l c = record {
-  most = omega (arith, c.size);
-  size = length-set ys i 0 ∙ c.size;
-  zero = λ k m. by_cases (ℕ_discrete k i)
-      (λ e. rw e (get_or-set_same ys i 0 0 l))
-      (λ e. get_or-set_other ys i k 0 0 e ∙ c.zero k (omega arith));
-}
-
-pub clear_all : (xs ys : List ℕ) (i : ℕ) → length ys ≤ i → Clearing xs ys i → ys ≡ replicate (length xs) 0
-clear_all xs ys i l c = ext_get_or 0 ys (replicate (length xs) 0) (c.size ∙ sym (length-replicate (length xs) 0))
-    (λ k m. c.zero k (omega arith) ∙ sym (get_or-replicate (length xs) k 0 0 (omega (arith, c.size))))
 
 module _ (z : Size) (places node row : List ℕ) where
   pub opening_refused : (x : Refusal) → open_verdict z places node row ≡ some x → (answer : ℕ) (tree : Tree) → answer ≡ number x → tree ≡ no_tree → Opening z places node row answer tree places node row
@@ -48,17 +25,17 @@ module _ (z : Size) (places node row : List ℕ) where
 
   -- the tests, one after the other: what is left after the first, the second and the third
   row_test : Tests
-  row_test = (not (eqb (length row) (z.places - z.rows)), bad_length) ∷ []
+  row_test = (not (eqb (length row) (z.places - z.rows)), BadLength) ∷ []
 
   node_test : Tests
-  node_test = (not (eqb (length node) (z.places - z.rows)), bad_length) ∷ row_test
+  node_test = (not (eqb (length node) (z.places - z.rows)), BadLength) ∷ row_test
 
   place_test : Tests
-  place_test = (not (eqb (length places) (z.places * z.width)), bad_length) ∷ node_test
+  place_test = (not (eqb (length places) (z.places * z.width)), BadLength) ∷ node_test
 
-  pub size_refused : (Within z → ⊥) → open_verdict z places node row ≡ some bad_size
+  pub size_refused : (Within z → ⊥) → open_verdict z places node row ≡ some BadSize
   unfolding open_verdict open_tests
-  size_refused h = refusal_here bad_size _ (not_yes (go (in_measure z) refl))
+  size_refused h = refusal_here BadSize _ (not_yes (go (in_measure z) refl))
     where
       go : (b : Bool) → in_measure z ≡ b → in_measure z ≡ false
       go true e = absurd (h (measure_in z e))
@@ -67,30 +44,30 @@ module _ (z : Size) (places node row : List ℕ) where
   module _ (w : Within z) where
     size_passed : open_verdict z places node row ≡ refusal place_test
     unfolding open_verdict open_tests place_test node_test row_test
-    size_passed = refusal_next bad_size _ (not_no (in_measure_lem z w))
+    size_passed = refusal_next BadSize _ (not_no (in_measure_lem z w))
 
-    pub places_refused : (length places ≡ z.places * z.width → ⊥) → open_verdict z places node row ≡ some bad_length
+    pub places_refused : (length places ≡ z.places * z.width → ⊥) → open_verdict z places node row ≡ some BadLength
     unfolding place_test
-    places_refused h = size_passed ∙ refusal_here bad_length node_test (not_yes (ne_eqb _ _ h))
+    places_refused h = size_passed ∙ refusal_here BadLength node_test (not_yes (ne_eqb _ _ h))
 
     module _ (p : length places ≡ z.places * z.width) where
       places_passed : open_verdict z places node row ≡ refusal node_test
       unfolding place_test
-      places_passed = size_passed ∙ refusal_next bad_length node_test (not_no (eq-eqb _ _ p))
+      places_passed = size_passed ∙ refusal_next BadLength node_test (not_no (eq-eqb _ _ p))
 
-      pub nodes_refused : (length node ≡ z.places - z.rows → ⊥) → open_verdict z places node row ≡ some bad_length
+      pub nodes_refused : (length node ≡ z.places - z.rows → ⊥) → open_verdict z places node row ≡ some BadLength
       unfolding node_test
-      nodes_refused h = places_passed ∙ refusal_here bad_length row_test (not_yes (ne_eqb _ _ h))
+      nodes_refused h = places_passed ∙ refusal_here BadLength row_test (not_yes (ne_eqb _ _ h))
 
       module _ (q : length node ≡ z.places - z.rows) where
         nodes_passed : open_verdict z places node row ≡ refusal row_test
         unfolding node_test
-        nodes_passed = places_passed ∙ refusal_next bad_length row_test (not_no (eq-eqb _ _ q))
+        nodes_passed = places_passed ∙ refusal_next BadLength row_test (not_no (eq-eqb _ _ q))
 
-        pub rows_refused : (length row ≡ z.places - z.rows → ⊥) → open_verdict z places node row ≡ some bad_length
+        pub rows_refused : (length row ≡ z.places - z.rows → ⊥) → open_verdict z places node row ≡ some BadLength
         unfolding row_test
-        rows_refused h = nodes_passed ∙ refusal_here bad_length [] (not_yes (ne_eqb _ _ h))
+        rows_refused h = nodes_passed ∙ refusal_here BadLength [] (not_yes (ne_eqb _ _ h))
 
         pub accepted : length row ≡ z.places - z.rows → open_verdict z places node row ≡ none
         unfolding row_test
-        accepted h = nodes_passed ∙ refusal_next bad_length [] (not_no (eq-eqb _ _ h)) ∙ refusal_none
+        accepted h = nodes_passed ∙ refusal_next BadLength [] (not_no (eq-eqb _ _ h)) ∙ refusal_none

@@ -4,7 +4,7 @@ use Rattle.std.proofs.Math.Option.{Option}
 use Rattle.measures.specs.declared.Size.{Size}
 use Rattle.trees.specs.declared.Tree.{Tree}
 use Rattle.trees.specs.Trees.{tree_of}
-use Rattle.answers.specs.Answers.{Refusal}
+use Rattle.answers.specs.declared.Refusal.{Refusal}
 use Rattle.answers.specs.Tests.{refusal, open_tests, unless, verdict_number}
 
 -- no node in use; and node 0 alone, alive, with tag 0 and parent 0

@@ -2,47 +2,18 @@
 #![tactic(auto)]
 
 ghost use Rattle.std.specs.Prelude.{◌≡◌, length, replicate};
+ghost use Rattle.answers.specs.Results.{answer_of, left_of};
 ghost use Rattle.opening.specs.Opening.{first_tree, no_tree, Opening};
 
+use answers::Refusal;
 use measures::Size;
 use trees::Tree;
-
-// The answer, and the tree of the store: node 0 alone, or no node at all where opening was refused.
-#[derive(Clone, Copy)]
-pub struct Opened {
-    pub answer: u8,
-    pub tree: Tree,
-}
 
 // Every byte becomes 0.
 pub fn clear(bytes: &mut [u8])
     ensures { bytes.new ≡ replicate (length bytes.old) 0 }
 {
-    let mut i: usize = 0;
-    while i < bytes.len() {
-        bytes[i] = 0;
-        i += 1;
-    }
-}
-
-fn clear16(numbers: &mut [u16])
-    ensures { numbers.new ≡ replicate (length numbers.old) 0 }
-{
-    let mut i: usize = 0;
-    while i < numbers.len() {
-        numbers[i] = 0;
-        i += 1;
-    }
-}
-
-fn no_tree() -> Tree
-    ensures { result ≡ no_tree }
-{
-    Tree {
-        state: [0u8; 128],
-        tag: [0u16; 128],
-        parent: [0u8; 128],
-    }
+    bytes.fill(0);
 }
 
 fn first_tree() -> Tree
@@ -57,35 +28,24 @@ fn first_tree() -> Tree
     }
 }
 
-fn refused(answer: u8) -> Opened
-    ensures { (result.answer ≡ answer) × (result.tree ≡ no_tree) }
-{
-    Opened {
-        answer,
-        tree: no_tree(),
-    }
-}
-
-pub fn open(size: Size, places: &mut [u8], node: &mut [u8], row: &mut [u16]) -> Opened
-    ensures { Opening size places.old node.old row.old result.answer result.tree places.new node.new row.new }
+// The tree of the store: node 0 alone. Refusals: 1, 2. A refusal leaves everything as it is.
+pub fn open(
+    size: Size,
+    places: &mut [u8],
+    node: &mut [u8],
+    row: &mut [u16],
+) -> Result<Tree, Refusal>
+    ensures { Opening size places.old node.old row.old (answer_of result) (left_of no_tree result) places.new node.new row.new }
 {
     if !measures::within(size) {
-        return refused(1);
+        return Err(Refusal::BadSize);
     }
-    if places.len() != size.places * size.width {
-        return refused(2);
-    }
-    if node.len() != size.places - size.rows {
-        return refused(2);
-    }
-    if row.len() != size.places - size.rows {
-        return refused(2);
+    let entries = size.places - size.rows;
+    if places.len() != size.places * size.width || node.len() != entries || row.len() != entries {
+        return Err(Refusal::BadLength);
     }
     clear(places);
     clear(node);
-    clear16(row);
-    Opened {
-        answer: 0,
-        tree: first_tree(),
-    }
+    row.fill(0);
+    Ok(first_tree())
 }

@@ -1,12 +1,14 @@
 // The nodes in use in an order: each comes after its parent. The order is guessed, and then tested.
 #![tactic(auto)]
 
-ghost use Rattle.std.specs.Prelude.{◌≡◌, true, false, ℕ, ◌≤◌, ◌<◌, length};
+ghost use Rattle.std.specs.Prelude.{◌≡◌, true, false, ℕ, ◌≤◌, ◌<◌, length, take, IfSome};
 ghost use Rattle.basics.specs.Decide.{Decides, at};
-ghost use Rattle.trees.specs.Trees.{tree_of};
-ghost use Rattle.listing.specs.Listed.{Listed};
 ghost use Rattle.table.specs.Rules.{Nodes};
 ghost use Rattle.ordering.specs.Ordered.{Follows, Ordered, Noting};
+
+use guessing::Children;
+use listing::NodesInUse;
+use trees::Tree;
 
 // Nodes side by side, the first ones of 128, and for each node the position behind its children.
 #[derive(Clone, Copy)]
@@ -14,65 +16,66 @@ pub struct Queue {
     pub node: [u8; 128],
     pub end: [u8; 128],
     pub count: usize,
+    pub ghost nodes: { Nodes node },
+    pub ghost few: { count ≤ 128 },
 }
 
-// Node c and those after it join the queue, which has k already. Part of a guess: beyond being nodes they are free.
-fn join(after: &[u8; 128], out: &mut [u8], k: usize, c: u8) -> usize
-    requires { Nodes after.now × Nodes out.old × (k ≤ 128) × (c < 128) }
-    ensures { Nodes out.new × (result ≤ 128) }
+// Node c and those after it join the queue, as far as it has room. Part of a guess: beyond being nodes they are free.
+fn join(kin: &Children, queue: &mut Queue, c: u8)
+    requires { c < 128 }
 {
-    let mut m = k;
     let mut n = c;
-    while m < 128 {
+    for k in queue.count..128 {
         if n == 0 {
-            return m;
+            return;
         }
-        out[m] = n;
-        n = after[widen::byte(n)];
-        m += 1;
+        queue.node[k] = n;
+        queue.count = k + 1;
+        n = kin.after[usize::from(n)];
     }
-    m
+}
+
+// Node p's children join the queue. Part of a guess: beyond being nodes they are free.
+fn join_children(kin: &Children, queue: &mut Queue, p: usize)
+    requires { p < 128 }
+{
+    join(kin, queue, kin.first[p]);
+    queue.end[p] = queue.count as u8;
 }
 
 // Node 0's children, and behind them the children of each in turn. Only a guess, which `ordered` tests: beyond being nodes they are free.
-pub fn lined_up<'a>(first: &'a [u8; 128], after: &'a [u8; 128]) -> Queue
-    requires { Nodes first.now × Nodes after.now }
-    ensures { Nodes result.node × (result.count ≤ 128) }
-{
-    let mut node = [0u8; 128];
-    let mut end = [0u8; 128];
-    let mut count = join(after, &mut node, 0, first[0]);
-    let mut i: usize = 0;
-    while i < count {
-        let p = widen::byte(node[i]);
-        count = join(after, &mut node, count, first[p]);
-        end[p] = count as u8;
-        i += 1;
+pub fn lined_up(kin: &Children) -> Queue {
+    let mut queue = Queue {
+        node: [0u8; 128],
+        end: [0u8; 128],
+        count: 0,
+    };
+    join_children(kin, &mut queue, 0);
+    for i in 0..128 {
+        if i == queue.count {
+            return queue;
+        }
+        let p = usize::from(queue.node[i]);
+        join_children(kin, &mut queue, p);
     }
-    Queue { node, end, count }
+    queue
 }
 
 // Does each node of a list come after its parent, and before the end of its parent's children? They are noted; if one does not, what is noted is left free.
-fn parents_first<'a>(
-    parent: &'a [u8; 128],
-    order: &'a [u8],
-    end: &'a [u8; 128],
-    seen: &mut [u8],
-) -> bool
+fn parents_first(parent: &[u8; 128], order: &[u8], end: &[u8; 128], seen: &mut [u8]) -> bool
     requires { (length seen.old ≡ 128) × ((n : ℕ) → at seen.old n ≡ 0) }
     ensures { (length seen.new ≡ 128) × (result ≡ true → Noting parent.now order.now end.now seen.new (length order.now))
         × (result ≡ false → ((j : ℕ) → j < length order.now → Follows parent.now order.now end.now j) → ⊥) }
 {
-    let mut j: usize = 0;
-    while j < order.len() {
-        let c = widen::byte(order[j]);
+    for (j, c) in order.iter().enumerate() {
+        let c = usize::from(*c);
         if c == 0 {
             return false;
         }
         if c >= 128 {
             return false;
         }
-        let p = widen::byte(parent[c]);
+        let p = usize::from(parent[c]);
         if p >= 128 {
             return false;
         }
@@ -80,46 +83,43 @@ fn parents_first<'a>(
             if seen[p] != 1 {
                 return false;
             }
-            if j >= widen::byte(end[p]) {
+            if j >= usize::from(end[p]) {
                 return false;
             }
         }
         seen[c] = 1;
-        j += 1;
     }
     true
 }
 
 // Are all nodes of a list noted?
-fn all_noted<'a>(used: &'a [u8], seen: &'a [u8]) -> bool
+fn all_noted(used: &[u8], seen: &[u8]) -> bool
     requires { (length seen.now ≡ 128) × ((i : ℕ) → i < length used.now → at used.now i < 128) }
     ensures { Decides result ((i : ℕ) → i < length used.now → at seen.now (at used.now i) ≡ 1) }
 {
-    let mut i: usize = 0;
-    while i < used.len() {
-        if seen[widen::byte(used[i])] != 1 {
+    for n in used {
+        if seen[usize::from(*n)] != 1 {
             return false;
         }
-        i += 1;
     }
     true
 }
 
 // Has a list all nodes in use, each after its parent and before the end of its parent's children?
-pub fn ordered<'a>(
-    state: &'a [u8; 128],
-    tag: &'a [u16; 128],
-    parent: &'a [u8; 128],
-    used: &'a [u8],
-    order: &'a [u8],
-    end: &'a [u8; 128],
-) -> bool
-    requires { Listed state.now used.now }
-    ensures { Decides result (Ordered (tree_of state.now tag.now parent.now) order.now end.now) }
+pub fn ordered(nodes: &NodesInUse, order: &[u8], end: &[u8; 128]) -> bool
+    ensures { Decides result (Ordered nodes.now.tree.now order.now end.now) }
 {
     let mut seen = [0u8; 128];
-    if !parents_first(parent, order, end, &mut seen) {
-        return false;
+    parents_first(&nodes.tree.parent, order, end, &mut seen) && all_noted(nodes.used, &seen)
+}
+
+// All nodes in use in such an order, where the guess at it holds.
+pub fn order(nodes: &NodesInUse, kin: &Children) -> Option<Queue>
+    ensures { IfSome result (λ q. Ordered nodes.now.tree.now (take q.count q.node) q.end) }
+{
+    let queue = lined_up(kin);
+    if ordered(nodes, &queue.node[..queue.count], &queue.end) {
+        return Some(queue);
     }
-    all_noted(used, &seen)
+    None
 }

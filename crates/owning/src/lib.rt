@@ -6,15 +6,8 @@ ghost use Rattle.trees.specs.Trees.{nodes_used, Child};
 ghost use Rattle.owning.specs.Owning.{parted_tree, parted_node};
 
 use measures::Row;
-use tree::Found;
+use nodes::Stand;
 use trees::Tree;
-
-// A tree, and the node of it that is to have an own row.
-#[derive(Clone, Copy)]
-pub struct Stand {
-    pub tree: Tree,
-    pub node: usize,
-}
 
 // An entry of the table gets a node and a row.
 pub fn enter(node: &mut [u8], row: &mut [u16], i: usize, n: usize, r: Row)
@@ -25,16 +18,15 @@ pub fn enter(node: &mut [u8], row: &mut [u16], i: usize, n: usize, r: Row)
     row[i] = measures::row_number(r);
 }
 
-// A node without a child is as it stands; another becomes a ghost, and a new child takes its tag.
+// The tree, and the node of it that is to have an own row: a node without a child as it stands; another becomes a ghost, and a new child takes its tag.
 pub fn parted(tree: Tree, v: usize) -> Stand
     requires { (v < 128) × ((c : ℕ) → Child tree v c → nodes_used tree < 128) }
     ensures { (result.tree ≡ parted_tree tree v) × (result.node ≡ parted_node tree v) }
 {
-    let found = nodes::child(&tree.state, &tree.tag, &tree.parent, v);
-    let Found::At(_) = found else {
+    let Some(_) = nodes::child(&tree, v) else {
         return Stand { tree, node: v };
     };
-    let m = nodes::empty_node(&tree.state, &tree.tag, &tree.parent);
+    let m = nodes::empty_node(&tree);
     Stand {
         tree: nodes::split(tree, v, m),
         node: m,

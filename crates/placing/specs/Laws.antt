@@ -1,33 +1,11 @@
 -- A row that is written to a place: the buffer keeps its length, that place has the row, every other place its bytes. Assumes nothing.
-use Rattle.std.specs.Prelude.{◌≡◌, ◌≢◌, List, ◌++◌, ℕ, ◌+◌, ◌-◌, ◌*◌, ◌≤◌, ◌<◌, length, take, drop, set}
-use Rattle.std.proofs.Common.{sym, ◌∙◌, ap, suc-mul, mul-le-mul_right, arith, length-append, length-drop, length-set, take-append-drop, length-take-le, take_at, drop_at, drop-drop, ext_get_or, get_or-set_same, get_or-set_other}
+use Rattle.std.specs.Prelude.{◌≡◌, ◌≢◌, List, ◌++◌, ℕ, ◌+◌, ◌-◌, ◌*◌, ◌≤◌, ◌<◌, length, take, drop}
+use Rattle.std.proofs.Common.{sym, ◌∙◌, ap, suc-mul, mul-le-mul_right, arith, length-append, length-drop, take-append-drop, length-take-le, take_at, drop_at, drop-drop}
 use Rattle.std.proofs.Math.Logic.{by_cases}
-use Rattle.std.proofs.Math.Decide.{ℕ_discrete, dec_lt}
+use Rattle.std.proofs.Math.Decide.{dec_lt}
 use Rattle.std.proofs.lemmas.List.{take-append-le, drop-append-le}
-use Rattle.basics.specs.Decide.{at}
 use Rattle.measures.specs.Measures.{begins_at, bytes_at}
 use Rattle.placing.specs.Placing.{put_at, Inside}
-
--- a list ys as long as xs, whose numbers below i are those of xs
-pub record Filling (xs ys : List ℕ) (i : ℕ) : Type 0 where
-  pub most : i ≤ length xs
-  pub size : length ys ≡ length xs
-  pub same : (k : ℕ) → k < i → at ys k ≡ at xs k
-
-pub fill_start : (xs ys : List ℕ) → length ys ≡ length xs → Filling xs ys 0
-fill_start xs ys e = record { most = omega arith; size = e; same = λ k l. absurd (omega arith) }
-
-pub fill_next : (xs ys : List ℕ) (i : ℕ) → i < length xs → Filling xs ys i → Filling xs (set ys i (at xs i)) (i + 1)
-fill_next xs ys i l c = record {
-  most = omega arith;
-  size = length-set ys i (at xs i) ∙ c.size;
-  same = λ k m. by_cases (ℕ_discrete k i)
-      (λ e. rw e (get_or-set_same ys i (at xs i) 0 (omega (arith, c.size))))
-      (λ e. get_or-set_other ys i k (at xs i) 0 e ∙ c.same k (omega arith));
-}
-
-pub fill_all : (xs ys : List ℕ) (i : ℕ) → length xs ≤ i → Filling xs ys i → ys ≡ xs
-fill_all xs ys i l c = ext_get_or 0 ys xs c.size (λ k m. c.same k (omega (arith, c.size)))
 
 -- A stretch of a list, replaced by one as long
 

@@ -1,7 +1,7 @@
 // The bytes of places: where a row lies, and a row written to a place. Each place's bytes are lent on as a part of the buffer.
 #![tactic(auto)]
 
-ghost use Rattle.std.specs.Prelude.{◌≡◌, [], length};
+ghost use Rattle.std.specs.Prelude.{◌≡◌, length};
 ghost use Rattle.measures.specs.Measures.{begins_at, bytes_at};
 ghost use Rattle.placing.specs.Placing.{put_at, Inside, Lies};
 
@@ -12,28 +12,16 @@ pub fn fill(to: &mut [u8], from: &[u8])
     requires { length to.old ≡ length from.now }
     ensures { to.new ≡ from.now }
 {
-    let mut i: usize = 0;
-    while i < from.len() {
-        to[i] = from[i];
-        i += 1;
-    }
+    to.copy_from_slice(from);
 }
 
 // The bytes of a place, where they lie.
-pub fn part<'a>(places: &'a [u8], width: usize, place: Place) -> &'a [u8]
+pub fn part(places: &[u8], width: usize, place: Place) -> &[u8]
     requires { Inside places.now width place.0 }
     ensures { (result.now ≡ bytes_at width places.now place.0) × Lies places.entry.ref_ptr (begins_at width place.0) result.ref_ptr }
 {
     let start = measures::offset(width, place);
-    let to = start + width;
-    &places[start..to]
-}
-
-// The empty part at the front of the places.
-pub fn nothing<'a>(places: &'a [u8]) -> &'a [u8]
-    ensures { (result.now ≡ []) × Lies places.entry.ref_ptr 0 result.ref_ptr }
-{
-    &places[..0]
+    &places[start..start + width]
 }
 
 // A row is written to a place; every other byte is as it was.
@@ -42,6 +30,5 @@ pub fn put(places: &mut [u8], width: usize, place: Place, bytes: &[u8])
     ensures { places.new ≡ put_at width places.old place.0 bytes.now }
 {
     let from = measures::offset(width, place);
-    let end = from + width;
-    fill(&mut places[from..end], bytes);
+    places[from..from + width].copy_from_slice(bytes);
 }

@@ -31,8 +31,9 @@ fn serve(stream: &[u8], out: &mut [u8]) -> usize
     let mut places = [0u8; 48];
     let mut node = [0u8; 2];
     let mut row = [0u16; 2];
-    let opened = opening::open(size, &mut places, &mut node, &mut row);
-    let tree = opened.tree;
-    let run = running::run(size, tree, &mut node, &mut row, &mut places, stream, out);
-    run.end
+    let tree = opening::open(size, &mut places, &mut node, &mut row).unwrap();
+    match running::run(size, tree, &mut node, &mut row, &mut places, stream, out) {
+        Ok(ran) => ran.end,
+        Err(_) => 0,
+    }
 }

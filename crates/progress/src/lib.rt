@@ -54,6 +54,6 @@ pub fn stop(run: Progress, number: u8, out: &mut [u8]) -> Progress
     requires { Room run 12 out.old }
     ensures { Stopped run number out.old result out.new }
 {
-    let end = text::plain_line(out, run.end, run.line, widen::byte(number));
+    let end = text::plain_line(out, run.end, run.line, usize::from(number));
     over(run, end)
 }

@@ -5,15 +5,8 @@ ghost use Rattle.std.specs.Prelude.{◌≡◌, ◌<◌};
 ghost use Rattle.removal.specs.Removal.{ghosted, emptied, spliced, relabelled};
 ghost use Rattle.pruning.specs.Pruning.{pruned_tree, pruned_node, settled_tree, settled_node};
 
-use tree::Found;
+use nodes::Stand;
 use trees::Tree;
-
-// A tree, and the node of it that may have one child too few.
-#[derive(Clone, Copy)]
-pub struct Stand {
-    pub tree: Tree,
-    pub node: usize,
-}
 
 // Node v becomes a ghost.
 pub fn ghosted(mut tree: Tree, v: usize) -> Tree
@@ -51,25 +44,22 @@ fn relabel(node: &mut [u8], x: usize, w: usize)
     requires { w < 128 }
     ensures { node.new ≡ relabelled x w node.old }
 {
-    let mut i: usize = 0;
-    while i < node.len() {
-        if widen::byte(node[i]) == x {
-            node[i] = w as u8;
+    for n in node.iter_mut() {
+        if usize::from(*n) == x {
+            *n = w as u8;
         }
-        i += 1;
     }
 }
 
-// A ghost without a child is taken away.
+// A ghost without a child is taken away: the tree then, and the node that may have one child too few.
 pub fn pruned(tree: Tree, v: usize) -> Stand
     requires { v < 128 }
     ensures { (result.tree ≡ pruned_tree tree v) × (result.node ≡ pruned_node tree v) }
 {
-    let found = nodes::child(&tree.state, &tree.tag, &tree.parent, v);
-    if let Found::At(_) = found {
+    if let Some(_) = nodes::child(&tree, v) {
         return Stand { tree, node: v };
     }
-    let above = widen::byte(tree.parent[v]);
+    let above = usize::from(tree.parent[v]);
     Stand {
         tree: emptied(tree, v),
         node: above,
@@ -84,11 +74,10 @@ pub fn settled(tree: Tree, x: usize, node: &mut [u8]) -> Tree
     if tree.state[x] != 2 {
         return tree;
     }
-    if nodes::children(&tree.state, &tree.tag, &tree.parent, x) != 1 {
+    if nodes::children(&tree, x) != 1 {
         return tree;
     }
-    let found = nodes::child(&tree.state, &tree.tag, &tree.parent, x);
-    let Found::At(w) = found else {
+    let Some(w) = nodes::child(&tree, x) else {
         return tree;
     };
     relabel(node, x, w);

@@ -1,51 +1,60 @@
 // The call that reads a row of a version. It changes nothing.
 #![tactic(auto)]
 
+ghost use Rattle.std.specs.Prelude.{IfOk};
+ghost use Rattle.answers.specs.Results.{answer_of};
 ghost use Rattle.records.specs.Records.{records_of};
 ghost use Rattle.reads.specs.Reads.{ReadEnds, ReadPart};
+ghost use Rattle.queries.specs.Lent.{bytes_of, sharers_of};
 
+use answers::Refusal;
 use measures::{Row, Size};
-use tree::Found;
-use trees::Tree;
+use trees::{Entries, Tree};
 
-// Refusals: 20, 2, 3, 21. The row is handed out where it lies in the places, with how many living versions share it; a refusal hands out the
-// empty part at their front, and 0.
-pub fn read<'a, 'b>(
+// A row where it lies in the places, and how many living versions share it.
+#[derive(Clone, Copy)]
+pub struct Lent<'a> {
+    pub bytes: &'a [u8],
+    pub sharers: usize,
+}
+
+// Refusals: 20, 2, 3, 21.
+pub fn read<'a>(
     size: Size,
     tree: Tree,
-    node: &'b [u8],
-    row: &'b [u16],
+    node: &[u8],
+    row: &[u16],
     places: &'a [u8],
     tag: u16,
     r: Row,
-    answer: &mut u8,
-    sharers: &mut usize,
-) -> &'a [u8]
-    ensures { ReadEnds (records_of size tree node.now row.now) places.now tag r.0 answer.new result.now sharers.new
-        × ReadPart (records_of size tree node.now row.now) places.now tag r.0 places.entry.ref_ptr result.ref_ptr }
+) -> Result<Lent<'a>, Refusal>
+    ensures ends { ReadEnds (records_of size tree node.now row.now) places.now tag r.0 (answer_of result) (bytes_of result) (sharers_of result) }
+    ensures part { IfOk result (λ lent. ReadPart (records_of size tree node.now row.now) places.now tag r.0 places.entry.ref_ptr lent.bytes.ref_ptr) }
 {
-    *sharers = 0;
-    if !soundness::sound(size, &tree.state, &tree.tag, &tree.parent, node, row) {
-        *answer = 20;
-        return placing::nothing(places);
+    if !soundness::sound(size, &tree, node, row) {
+        return Err(Refusal::Unsound);
     }
     if places.len() != size.places * size.width {
-        *answer = 2;
-        return placing::nothing(places);
+        return Err(Refusal::BadLength);
     }
-    let rows = size.rows;
-    if !measures::has_row(rows, r) {
-        *answer = 3;
-        return placing::nothing(places);
+    if !measures::has_row(size.rows, r) {
+        return Err(Refusal::BadRow);
     }
-    let found = tree::version(&tree.state, &tree.tag, &tree.parent, tag);
-    let Found::At(n) = found else {
-        *answer = 21;
-        return placing::nothing(places);
+    let Some(n) = tree::version(&tree, tag) else {
+        return Err(Refusal::UnknownTag);
     };
-    *answer = 0;
-    let seen = sharing::lookup(&tree.state, &tree.tag, &tree.parent, rows, node, row, n, r);
-    *sharers = seen.sharers;
-    let width = size.width;
-    placing::part(places, width, seen.place)
+    let seen = sharing::lookup(
+        &tree,
+        &Entries {
+            rows: size.rows,
+            node,
+            row,
+        },
+        n,
+        r,
+    );
+    Ok(Lent {
+        bytes: placing::part(places, size.width, seen.place),
+        sharers: seen.sharers,
+    })
 }

@@ -14,24 +14,21 @@ pub struct Reader<'a> {
 }
 
 // The reader at a stream's first command.
-pub fn make<'a>(stream: &'a [u8]) -> Reader<'a>
+pub fn make(stream: &[u8]) -> Reader<'_>
     ensures { (result.stream ≡ stream.entry) × (result.at ≡ 0) }
 {
     Reader { stream, at: 0 }
 }
 
 // The reader at another position.
-pub fn moved<'a>(reader: Reader<'a>, at: usize) -> Reader<'a>
+pub fn moved(reader: Reader<'_>, at: usize) -> Reader<'_>
     ensures { (result.stream ≡ reader.entry.stream) × (result.at ≡ at) }
 {
-    Reader {
-        stream: reader.stream,
-        at,
-    }
+    Reader { at, ..reader }
 }
 
 // The reader's next command.
-pub fn command_here<'a>(reader: Reader<'a>, width: usize) -> Step
+pub fn command_here(reader: Reader<'_>, width: usize) -> Step
     requires { width ≤ 1024 }
     ensures { result ≡ step_at width reader.entry.stream.now reader.entry.at }
 {

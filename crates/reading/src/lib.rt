@@ -2,9 +2,10 @@
 #![tactic(auto)]
 
 ghost use Rattle.std.specs.Prelude.{◌≡◌, ◌+◌, ◌≤◌, length};
-ghost use Rattle.trees.specs.Trees.{table_of, used};
+ghost use Rattle.trees.specs.Trees.{entries_of, used};
 
 use measures::Place;
+use trees::Entries;
 
 // The place of an entry.
 pub fn held(rows: usize, i: usize) -> Place
@@ -14,18 +15,16 @@ pub fn held(rows: usize, i: usize) -> Place
     Place(rows + i)
 }
 
-// How many places are in use: the origin's, and those of the exceptions.
-pub fn used<'a>(rows: usize, node: &'a [u8], row: &'a [u16]) -> usize
-    requires { rows + length node.now ≤ 4096 }
-    ensures { result ≡ used (table_of rows node.now row.now) }
+// How many places are in use: the origin's, and those of the exceptions. The loop adds where a chain would filter: so the compiler takes many at once.
+pub fn used(table: &Entries) -> usize
+    requires { table.now.rows + length table.now.node.now ≤ 4096 }
+    ensures { result ≡ used (entries_of table.now) }
 {
-    let mut sum = rows;
-    let mut i: usize = 0;
-    while i < node.len() {
-        if node[i] != 0 {
+    let mut sum = table.rows;
+    for n in table.node {
+        if *n != 0 {
             sum += 1;
         }
-        i += 1;
     }
     sum
 }

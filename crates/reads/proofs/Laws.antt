@@ -15,7 +15,9 @@ use Rattle.tree.specs.Nodes.{version_alive}
 use Rattle.reading.specs.Lookup.{Looking}
 use Rattle.reading.specs.Used.{place_low}
 use Rattle.sharing.specs.Sharing.{sharers_at}
-use Rattle.answers.specs.Answers.{Refusal, bad_length, bad_row, unknown_tag, number, row}
+use Rattle.answers.specs.declared.Refusal.{Refusal}
+use Rattle.answers.specs.declared.Refusal.TheVariants.{BadLength, BadRow, UnknownTag}
+use Rattle.answers.specs.Answers.{number, row}
 use Rattle.answers.specs.Tests.{Tests, refusal}
 use Rattle.answers.proofs.Laws.{refusal_here, refusal_next, refusal_none}
 use Rattle.soundness.specs.Judged.{judged_sound}
@@ -23,54 +25,50 @@ use Rattle.soundness.specs.Parts.{few_places}
 use Rattle.placing.specs.Placing.{Inside, Spot, Lies}
 use Rattle.reads.specs.Reads.{read_tests, row_of_tag, sharers_of_tag, read_answer, part_from, ReadEnds, ReadPart}
 
--- the empty part at the front of what is lent
-abbrev Nothing : Spot → List ℕ → Spot → Type 0
-Nothing whole bytes part = (bytes ≡ []) × Lies whole 0 part
-
 module _ (z : Records) (places : List ℕ) (tag r : ℕ) where
   -- a read's whole promise: what it answers, and which part of the places it hands out
   abbrev Promise : ℕ → ℕ → Spot → List ℕ → Spot → Type 0
   Promise number sharers whole bytes part = ReadEnds z places tag r number bytes sharers × ReadPart z places tag r whole part
 
   tag_test : Tests
-  tag_test = (not (lives z tag), unknown_tag) ∷ []
+  tag_test = (not (lives z tag), UnknownTag) ∷ []
 
   row_test : Tests
-  row_test = (leb z.size.rows r, bad_row) ∷ tag_test
+  row_test = (leb z.size.rows r, BadRow) ∷ tag_test
 
   module _ (s : Sound z) where
-    read_refused : (x : Refusal) → refusal (read_tests z (length places) tag r) ≡ some x → {whole part : Spot} {bytes : List ℕ} → Nothing whole bytes part → Promise (number x) 0 whole bytes part
-    unfolding read_answer part_from
-    read_refused x e (h, l) = (judged_sound s (rw (e, h)), judged_sound s (rw e l))
+    read_refused : (x : Refusal) → refusal (read_tests z (length places) tag r) ≡ some x → ReadEnds z places tag r (number x) [] 0
+    unfolding read_answer
+    read_refused x e = judged_sound s (rw e)
 
-    pub read_length : (length places ≡ z.size.places * z.size.width → ⊥) → {whole part : Spot} {bytes : List ℕ} → Nothing whole bytes part → Promise 2 0 whole bytes part
+    pub read_length : (length places ≡ z.size.places * z.size.width → ⊥) → ReadEnds z places tag r 2 [] 0
     unfolding read_tests
-    read_length h = read_refused bad_length (refusal_here bad_length _ (not_yes (ne_eqb _ _ h)))
+    read_length h = read_refused BadLength (refusal_here BadLength _ (not_yes (ne_eqb _ _ h)))
 
     module _ (p : length places ≡ z.size.places * z.size.width) where
       length_passed : refusal (read_tests z (length places) tag r) ≡ refusal row_test
       unfolding read_tests row_test tag_test
-      length_passed = refusal_next bad_length _ (not_no (eq-eqb _ _ p))
+      length_passed = refusal_next BadLength _ (not_no (eq-eqb _ _ p))
 
-      pub read_row : (r < z.size.rows → ⊥) → {whole part : Spot} {bytes : List ℕ} → Nothing whole bytes part → Promise 3 0 whole bytes part
+      pub read_row : (r < z.size.rows → ⊥) → ReadEnds z places tag r 3 [] 0
       unfolding row_test
-      read_row h = read_refused bad_row (length_passed ∙ refusal_here bad_row tag_test (le-leb z.size.rows r (omega arith)))
+      read_row h = read_refused BadRow (length_passed ∙ refusal_here BadRow tag_test (le-leb z.size.rows r (omega arith)))
 
       module _ (l : r < z.size.rows) where
         row_passed : refusal (read_tests z (length places) tag r) ≡ refusal tag_test
         unfolding row_test
-        row_passed = length_passed ∙ refusal_next bad_row tag_test (lt-leb _ _ l)
+        row_passed = length_passed ∙ refusal_next BadRow tag_test (lt-leb _ _ l)
 
-        pub read_tag : version z.tree tag ≡ none → {whole part : Spot} {bytes : List ℕ} → Nothing whole bytes part → Promise 21 0 whole bytes part
+        pub read_tag : version z.tree tag ≡ none → ReadEnds z places tag r 21 [] 0
         unfolding tag_test lives
-        read_tag v = read_refused unknown_tag (row_passed ∙ refusal_here unknown_tag [] (rw v))
+        read_tag v = read_refused UnknownTag (row_passed ∙ refusal_here UnknownTag [] (rw v))
 
         -- the row of the version at node n, in the place from which that reads it, and how many read it from there
         pub read_done : (n : ℕ) → version z.tree tag ≡ some n → {whole part : Spot} {bytes : List ℕ} {sharers : ℕ} → bytes ≡ bytes_at z.size.width places (place z.tree (table z) n r)
             → Lies whole (begins_at z.size.width (place z.tree (table z) n r)) part → sharers ≡ sharers_at z.tree (table z) n r → Promise 0 sharers whole bytes part
         unfolding tag_test lives read_answer row_of_tag sharers_of_tag tag_place part_from
         read_done n v h m k =
-            let e : refusal (read_tests z (length places) tag r) ≡ none = row_passed ∙ refusal_next unknown_tag [] (rw v) ∙ refusal_none in
+            let e : refusal (read_tests z (length places) tag r) ≡ none = row_passed ∙ refusal_next UnknownTag [] (rw v) ∙ refusal_none in
             let f : tag_place z tag r ≡ place z.tree (table z) n r = rw v in
             let g : part_from z (length places) tag r ≡ begins_at z.size.width (place z.tree (table z) n r) = rw e (ap (begins_at z.size.width) f) in
             (judged_sound s (rw (e, v) (λ i. row (h i) (k i))), judged_sound s (rw g m))

@@ -11,7 +11,9 @@ use Rattle.measures.specs.Measures.{bytes_at}
 use Rattle.records.specs.Records.{Records, lives, tag_place, is_found, place_by}
 use Rattle.trees.specs.Trees.{version}
 use Rattle.records.specs.Sound.{Sound}
-use Rattle.answers.specs.Answers.{Refusal, bad_length, bad_row, unknown_tag, unsound, Answer, refused_of, row}
+use Rattle.answers.specs.declared.Refusal.{Refusal}
+use Rattle.answers.specs.declared.Refusal.TheVariants.{BadLength, BadRow, UnknownTag, Unsound}
+use Rattle.answers.specs.Answers.{Answer, refused_of, row}
 use Rattle.answers.specs.Tests.{refusal, unless}
 use Rattle.answers.proofs.Laws.{refusal_passed, number_some}
 use Rattle.placing.specs.Laws.{bytes_size}
@@ -36,9 +38,9 @@ module _ (z : Records) (places : List ℕ) (tag r : ℕ) where
   row_size : Sound z → verdict ≡ none → length (row_of_tag z places tag r) ≡ z.size.width
   unfolding verdict read_tests row_of_tag lives tag_place
   row_size s v =
-      let (p, v₁) = refusal_passed (not (eqb (length places) (z.size.places * z.size.width))) bad_length _ v in
-      let (l, v₂) = refusal_passed (leb z.size.rows r) bad_row _ v₁ in
-      let (t, v₃) = refusal_passed (not (is_found (version z.tree tag))) unknown_tag _ v₂ in
+      let (p, v₁) = refusal_passed (not (eqb (length places) (z.size.places * z.size.width))) BadLength _ v in
+      let (l, v₂) = refusal_passed (leb z.size.rows r) BadRow _ v₁ in
+      let (t, v₃) = refusal_passed (not (is_found (version z.tree tag))) UnknownTag _ v₂ in
       go (version z.tree tag) refl (eqb-true _ _ (unnot (eqb (length places) (z.size.places * z.size.width)) p)) (leb-false _ _ l) t
     where
       unnot : (b : Bool) → not b ≡ false → b ≡ true
@@ -64,9 +66,9 @@ module _ (z : Records) (places : List ℕ) (tag r : ℕ) where
       let h = e.sound s in
       let v = accepted verdict (row_of_tag z places tag r) (sharers_of_tag z tag r) (sym (same_number h) ∙ zero_number) in
       g (rw (same_bytes h, v) (row_size s v)) in
-      absurd (number_some unsound (sym (same_number (e.unsound bad)) ∙ zero_number)))
+      absurd (number_some Unsound (sym (same_number (e.unsound bad)) ∙ zero_number)))
 
   pub read_some : {n sharers : ℕ} {bytes : List ℕ} → ReadEnds z places tag r n bytes sharers → n ≡ 0 → bytes ≢ []
   read_some e zero_number none_read =
       let bad : Sound z → ⊥ = λ s. omega (arith, s.measured.within.width.0, read_size e zero_number, ap length none_read) in
-      number_some unsound (sym (same_number (e.unsound bad)) ∙ zero_number)
+      number_some Unsound (sym (same_number (e.unsound bad)) ∙ zero_number)

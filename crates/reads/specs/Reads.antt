@@ -7,16 +7,17 @@ use Rattle.trees.specs.Trees.{version}
 use Rattle.records.specs.Records.{Records, table, lives, tag_place}
 use Rattle.sharing.specs.Sharing.{sharers_at}
 use Rattle.soundness.specs.Judged.{Judged}
-use Rattle.answers.specs.Answers.{bad_length, bad_row, unknown_tag, unsound, Answer, handed, row, refused_of}
+use Rattle.answers.specs.declared.Refusal.TheVariants.{BadLength, BadRow, UnknownTag, Unsound}
+use Rattle.answers.specs.Answers.{Answer, handed, row, refused_of}
 use Rattle.answers.specs.Tests.{Tests, refusal, unless}
 
 -- Reading: the tests of SPEC 7.1 after 20, the bytes, and how many share them
 
 unfoldable pub read_tests : Records → ℕ → ℕ → ℕ → Tests
 read_tests z bytes tag r =
-    (not (eqb bytes (z.size.places * z.size.width)), bad_length)
-    ∷ (leb z.size.rows r, bad_row)
-    ∷ (not (lives z tag), unknown_tag)
+    (not (eqb bytes (z.size.places * z.size.width)), BadLength)
+    ∷ (leb z.size.rows r, BadRow)
+    ∷ (not (lives z tag), UnknownTag)
     ∷ []
 
 -- the row of the version with a tag, in the lent places
@@ -41,7 +42,7 @@ part_from z bytes tag r = unless (refusal (read_tests z bytes tag r)) (λ x. 0) 
 -- The promise of read: on sound records the answer above is handed out, on others 20
 abbrev pub ReadEnds : Records → List ℕ → ℕ → ℕ → ℕ → List ℕ → ℕ → Type 0
 ReadEnds z places tag r number bytes sharers =
-    Judged z (handed number bytes (sharers ∷ []) ≡ read_answer z places tag r) (handed number bytes (sharers ∷ []) ≡ refused_of 1 unsound)
+    Judged z (handed number bytes (sharers ∷ []) ≡ read_answer z places tag r) (handed number bytes (sharers ∷ []) ≡ refused_of 1 Unsound)
 
 -- and which part of the places, lent at `whole`, a read hands out
 abbrev pub ReadPart : Records → List ℕ → ℕ → ℕ → Spot → Spot → Type 0

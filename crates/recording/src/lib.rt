@@ -16,11 +16,7 @@ pub fn head(size: Size) -> [u16; 3]
     requires { Within size }
     ensures { result ≡ (size.rows ∷ size.width ∷ size.places ∷ []) }
 {
-    let mut h = [0u16; 3];
-    h[0] = size.rows as u16;
-    h[1] = size.width as u16;
-    h[2] = size.places as u16;
-    h
+    [size.rows as u16, size.width as u16, size.places as u16]
 }
 
 // The tree.

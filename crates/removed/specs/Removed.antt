@@ -7,13 +7,14 @@ use Rattle.measures.specs.declared.Size.{Size}
 use Rattle.records.specs.Records.{Records, records_of, lives}
 use Rattle.trees.specs.Trees.{Snapshot, version}
 use Rattle.records.specs.Sound.{Sound}
-use Rattle.answers.specs.Answers.{Refusal, origin_tag, unknown_tag}
+use Rattle.answers.specs.declared.Refusal.{Refusal}
+use Rattle.answers.specs.declared.Refusal.TheVariants.{OriginTag, UnknownTag}
 use Rattle.answers.specs.Tests.{unless}
 use Rattle.answers.proofs.Laws.{refusal_passed}
 use Rattle.edits.proofs.Solve.{lives_node}
 use Rattle.deletes.specs.Deleting.{Left, left, delete_tests, delete_verdict, deleted}
 use Rattle.intact.specs.Intact.{Intact}
-use Rattle.intact.specs.Tags.{origin_tag as node_origin}
+use Rattle.intact.specs.Tags.{OriginTag as node_origin}
 use Rattle.removed.specs.RemovedVersion.{removed, removed_whole}
 
 -- all that a delete leaves
@@ -27,8 +28,8 @@ left_records size l = records_of size l.tree l.node l.row
 pub delete_allowed : (z : Records) → Sound z → (tag : ℕ) → delete_verdict z tag ≡ none → (tag ≢ 0) × ((v : ℕ) × (version z.tree tag ≡ some v) × Snapshot z.tree v)
 unfolding delete_verdict delete_tests
 delete_allowed z s tag e =
-    let (a, e₁) = refusal_passed (eqb tag 0) origin_tag _ e in
-    let (b, e₂) = refusal_passed (not (lives z tag)) unknown_tag [] e₁ in
+    let (a, e₁) = refusal_passed (eqb tag 0) OriginTag _ e in
+    let (b, e₂) = refusal_passed (not (lives z tag)) UnknownTag [] e₁ in
     let (v, h, x, g) = lives_node z tag (not-false _ b) in
     let off : tag ≢ 0 = eqb-false tag 0 a in
     (off, (v, h, ((λ k. off (node_origin z s tag (h ∙ ap some k))), x)))

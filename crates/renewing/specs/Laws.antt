@@ -1,28 +1,17 @@
--- A row on its way from one place to another: through a local buffer, at whose front it lies. Assumes nothing.
-use Rattle.std.specs.Prelude.{◌≡◌, List, ◌++◌, ℕ, ◌≤◌, length, take, replicate}
-use Rattle.std.proofs.Common.{◌∙◌, ap, arith, length-append, length-take-le, take_at}
-use Rattle.std.proofs.lemmas.List.{length-replicate}
-use Rattle.measures.specs.Measures.{bytes_at}
-use Rattle.placing.specs.Placing.{put_at, Inside}
-use Rattle.placing.specs.Laws.{bytes_size}
+-- A row on its way from one place to another. Assumes nothing.
+use Rattle.std.specs.Prelude.{◌≡◌, List, ℕ, ◌+◌, ◌-◌, take, drop}
+use Rattle.std.specs.List.{copy_within}
+use Rattle.std.proofs.Common.{◌∙◌, arith, append_assoc}
+use Rattle.measures.specs.Measures.{begins_at, bytes_at}
+use Rattle.placing.specs.Placing.{put_at}
 
--- the front that is lent has as many bytes as a row
-pub room_size : (n width : ℕ) → width ≤ n → length {A = ℕ} (take width (replicate n 0)) ≡ width
-room_size n width l = length-take-le width (replicate n 0) (omega (arith, length-replicate {A = ℕ} n 0))
-
-module _ (width : ℕ) (places : List ℕ) (p : ℕ) (i : Inside places width p) (row : List ℕ) (e : row ≡ bytes_at width places p) where
-  pub row_size : length row ≡ width
-  row_size = ap length e ∙ bytes_size width places p i.within
-
-  -- with whatever comes after the row, the buffer is long enough and its front is the row
-  pub front_long : (rest : List ℕ) → width ≤ length (row ++ rest)
-  front_long rest = omega (arith, length-append row rest, row_size)
-
-  pub front_row : (rest : List ℕ) → take width (row ++ rest) ≡ bytes_at width places p
-  front_row rest = take_at row rest width row_size ∙ e
-
-  pub front_size : (rest : List ℕ) → length (take width (row ++ rest)) ≡ width
-  front_size rest = length-take-le width (row ++ rest) (front_long rest)
+-- a row copied within the places
+pub copied : (width : ℕ) (places : List ℕ) (p q from to : ℕ) → from ≡ begins_at width p → to ≡ begins_at width q
+    → copy_within places from (from + width) to ≡ put_at width places q (bytes_at width places p)
+unfolding put_at bytes_at
+copied width places p q from to e f =
+    let w : (from + width) - from ≡ width = omega arith in
+    rw (w, e, f) (append_assoc (take (begins_at width q) places) (take width (drop (begins_at width p) places)) (drop (begins_at width q + width) places))
 
 -- a row saved, and then another written in its place
 pub renewed : (width : ℕ) (places saved written : List ℕ) (own spare : ℕ) (bs : List ℕ)

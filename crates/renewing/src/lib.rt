@@ -12,9 +12,9 @@ pub fn copy(places: &mut [u8], width: usize, from: Place, to: Place)
     requires { Inside places.old width from.0 × Inside places.old width to.0 }
     ensures { places.new ≡ put_at width places.old to.0 (bytes_at width places.old from.0) }
 {
-    let mut old = [0u8; 1024];
-    placing::fill(&mut old[..width], placing::part(places, width, from));
-    placing::put(places, width, to, &old[..width]);
+    let start = measures::offset(width, from);
+    let dest = measures::offset(width, to);
+    places.copy_within(start..start + width, dest);
 }
 
 // The row in a place is saved in another, and then new bytes are written to the first.

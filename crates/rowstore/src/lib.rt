@@ -17,7 +17,18 @@ use measures::{Row, Size};
 pub extern "C" fn rowstore_count(records: &[u8], used: &mut usize, snapshots: &mut usize) -> u8
     ensures { HostCounts records.now result used.new snapshots.new }
 {
-    host_count::count(records, used, snapshots)
+    match host_count::count(records) {
+        Ok(counts) => {
+            *used = counts.used;
+            *snapshots = counts.snapshots;
+            0
+        }
+        Err(refusal) => {
+            *used = 0;
+            *snapshots = 0;
+            refusal.number()
+        }
+    }
 }
 
 // A snapshot of the version with a tag, under a new tag. Refusals: 20, 4, 21, 22, 23.
@@ -25,7 +36,7 @@ pub extern "C" fn rowstore_count(records: &[u8], used: &mut usize, snapshots: &m
 pub extern "C" fn rowstore_snapshot(records: &mut [u8], source: u16, tag: u16) -> u8
     ensures { HostSnapshots records.old source tag result records.new }
 {
-    host_snapshot::snapshot(records, source, tag)
+    answers::answer_of(&host_snapshot::snapshot(records, source, tag))
 }
 
 // The version with a tag goes. Refusals: 20, 5, 21.
@@ -33,7 +44,7 @@ pub extern "C" fn rowstore_snapshot(records: &mut [u8], source: u16, tag: u16) -
 pub extern "C" fn rowstore_delete(records: &mut [u8], tag: u16) -> u8
     ensures { HostDeletes records.old tag result records.new }
 {
-    host_delete::delete(records, tag)
+    answers::answer_of(&host_delete::delete(records, tag))
 }
 
 // A row of the version with a tag is written. Refusals: 20, 2, 3, 21, 24.
@@ -47,7 +58,7 @@ pub extern "C" fn rowstore_write(
 ) -> u8
     ensures { HostWrites records.old places.old tag row bytes.now result (records.new, places.new) }
 {
-    host_write::write(records, places, tag, Row(row), bytes)
+    answers::answer_of(&host_write::write(records, places, tag, Row(row), bytes))
 }
 
 // Rows of the version with a tag are written, in their order, until one is refused; `done` counts those that were. Refusals: 20, 25, 2, 21, 3, 24.
@@ -62,7 +73,12 @@ pub extern "C" fn rowstore_border(
 ) -> u8
     ensures { HostBorders records.old places.old tag rows.now bytes.now result done.new (records.new, places.new) }
 {
-    host_border::border(records, places, tag, rows, bytes, done)
+    let ended = host_border::border(records, places, tag, rows, bytes);
+    *done = ended.done;
+    match ended.refusal {
+        Some(refusal) => refusal.number(),
+        None => 0,
+    }
 }
 
 // A row of the version with a tag is copied to `out`, and `sharers` says how many living versions share it; 0 if refused. Refusals: 20, 2, 3, 21.
@@ -77,7 +93,16 @@ pub extern "C" fn rowstore_read(
 ) -> u8
     ensures { HostReads records.now places.now tag row out.old result (out.new, sharers.new) }
 {
-    host_read::read(records, places, tag, Row(row), out, sharers)
+    match host_read::read(records, places, tag, Row(row), out) {
+        Ok(many) => {
+            *sharers = many;
+            0
+        }
+        Err(refusal) => {
+            *sharers = 0;
+            refusal.number()
+        }
+    }
 }
 
 // A store of `rows` rows of `width` bytes in `place_count` places. Refusals: 1, 2.
@@ -96,7 +121,7 @@ pub extern "C" fn rowstore_open(
         width,
         places: place_count,
     };
-    host_open::open(records, places, size)
+    answers::answer_of(&host_open::open(records, places, size))
 }
 
 // A row of 1,024 hooks is turned to cable order, into `out`. Refusal: 2.
@@ -104,7 +129,7 @@ pub extern "C" fn rowstore_open(
 pub extern "C" fn rowstore_to_cable(row: &[u8], out: &mut [u8]) -> u8
     ensures { Turns to_cable row.now out.old result out.new }
 {
-    cabling::to_cable(row, out)
+    answers::answer_of(&cabling::to_cable(row, out))
 }
 
 // A row in cable order is turned back, into `out`. Refusal: 2.
@@ -112,5 +137,5 @@ pub extern "C" fn rowstore_to_cable(row: &[u8], out: &mut [u8]) -> u8
 pub extern "C" fn rowstore_from_cable(row: &[u8], out: &mut [u8]) -> u8
     ensures { Turns from_cable row.now out.old result out.new }
 {
-    cabling::from_cable(row, out)
+    answers::answer_of(&cabling::from_cable(row, out))
 }

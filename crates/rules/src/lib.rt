@@ -3,79 +3,41 @@
 
 ghost use Rattle.std.specs.Prelude.{◌≡◌, ◌≤◌, length};
 ghost use Rattle.basics.specs.Decide.{Decides};
-ghost use Rattle.trees.specs.Trees.{tree_of, table_of};
+ghost use Rattle.trees.specs.Trees.{entries_of};
 ghost use Rattle.tree.specs.Rules.{TreeSound};
-ghost use Rattle.listing.specs.Listed.{Listed};
 ghost use Rattle.table.specs.Rules.{Fitting, Blank, Verdict, TableSound};
 
+use listing::NodesInUse;
+use trees::{Entries, Tree};
+
 // Rules 2 to 5, with a list of the nodes in use.
-pub fn tree_sound<'a>(
-    state: &'a [u8; 128],
-    tag: &'a [u16; 128],
-    parent: &'a [u8; 128],
-    used: &'a [u8],
-) -> bool
-    requires { Listed state.now used.now }
-    ensures { Decides result (TreeSound (tree_of state.now tag.now parent.now)) }
+pub fn tree_sound(nodes: &NodesInUse) -> bool
+    ensures { Decides result (TreeSound nodes.now.tree.now) }
 {
-    if !kinds::states(state, tag, parent) {
-        return false;
-    }
-    if !linking::linked(state, tag, parent, used) {
-        return false;
-    }
-    if !tagging::tagged(state, tag, parent, used) {
-        return false;
-    }
-    if !branching::branching(state, tag, parent, used) {
-        return false;
-    }
-    true
+    kinds::states(nodes.tree)
+        && linking::linked(nodes)
+        && tagging::tagged(nodes)
+        && branching::branching(nodes)
 }
 
 // Rules 6 and 7, of a tree that meets rule 3, with a list of its nodes in use. The marks are left as rule 6 made them.
-pub fn table_sound<'a>(
-    state: &'a [u8; 128],
-    tag: &'a [u16; 128],
-    parent: &'a [u8; 128],
-    used: &'a [u8],
-    rows: usize,
-    node: &'a [u8],
-    row: &'a [u16],
-    marks: &mut [u8],
-) -> bool
-    requires { Listed state.now used.now × Fitting (tree_of state.now tag.now parent.now) (table_of rows node.now row.now) × Blank rows marks.old }
-    ensures { Verdict (TableSound (tree_of state.now tag.now parent.now) (table_of rows node.now row.now)) (table_of rows node.now row.now) (length node.now) marks.new result }
+pub fn table_sound(nodes: &NodesInUse, table: &Entries, marks: &mut [u8]) -> bool
+    requires { Fitting nodes.now.tree.now (entries_of table.now) × Blank table.now.rows marks.old }
+    ensures { Verdict (TableSound nodes.now.tree.now (entries_of table.now)) (entries_of table.now) (length table.now.node.now) marks.new result }
 {
-    if !entering::entries(state, tag, parent, rows, node, row, marks) {
-        return false;
-    }
-    if !clearing::all_read(state, tag, parent, used, rows, node, row, marks) {
-        return false;
-    }
-    true
+    entering::entries(nodes.tree, table, marks) && clearing::all_read(nodes, table, marks)
 }
 
 // Rules 2 to 7, of a table whose halves are as long and whose rows are few, with marks that are all 0.
-pub fn all_sound<'a>(
-    state: &'a [u8; 128],
-    tag: &'a [u16; 128],
-    parent: &'a [u8; 128],
-    rows: usize,
-    node: &'a [u8],
-    row: &'a [u16],
-    marks: &mut [u8],
-) -> bool
-    requires { (length row.now ≡ length node.now) × (rows ≤ 1024) × Blank rows marks.old }
-    ensures { Verdict (TreeSound (tree_of state.now tag.now parent.now) × TableSound (tree_of state.now tag.now parent.now) (table_of rows node.now row.now)) (table_of rows node.now row.now) (length node.now) marks.new result }
+pub fn all_sound(tree: &Tree, table: &Entries, marks: &mut [u8]) -> bool
+    requires { (length table.now.row.now ≡ length table.now.node.now) × (table.now.rows ≤ 1024) × Blank table.now.rows marks.old }
+    ensures { Verdict (TreeSound tree.now × TableSound tree.now (entries_of table.now)) (entries_of table.now) (length table.now.node.now) marks.new result }
 {
     let mut list = [0u8; 128];
-    let k = listing::list(state, &mut list);
-    if !tree_sound(state, tag, parent, &list[..k]) {
-        return false;
-    }
-    if !table_sound(state, tag, parent, &list[..k], rows, node, row, marks) {
-        return false;
-    }
-    true
+    let k = listing::list(&tree.state, &mut list);
+    let nodes = NodesInUse {
+        tree,
+        used: &list[..k],
+    };
+    tree_sound(&nodes) && table_sound(&nodes, table, marks)
 }

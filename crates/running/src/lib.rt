@@ -2,10 +2,13 @@
 #![tactic(auto)]
 
 ghost use Rattle.std.specs.Prelude.{◌≡◌, ◌+◌, ◌*◌, ◌≤◌};
+ghost use Rattle.answers.specs.Results.{answer_of};
 ghost use Rattle.records.specs.Records.{records_of};
 ghost use Rattle.progress.specs.Replying.{line_room};
+ghost use Rattle.running.specs.Ran.{tree_after, end_of};
 ghost use Rattle.lines.specs.Streams.{StreamEnds};
 
+use answers::Refusal;
 use measures::Size;
 use progress::Progress;
 use trees::Tree;
@@ -18,15 +21,15 @@ fn room(width: usize, n: usize) -> usize
     (20 + 2 * width) * n
 }
 
-// A stream's answer, the tree that it left, and the end of the text. Nothing is changed by a refusal.
+// The tree that a stream left, and the end of the text.
 #[derive(Clone, Copy)]
-pub struct Streamed {
-    pub answer: u8,
+pub struct Ran {
     pub tree: Tree,
     pub end: usize,
 }
 
-// Refusals: 20, 2 the places, 8, 2 the output. It takes 20 bytes and two for each of a row, for each byte of the stream.
+// Refusals: 20, 2 the places, 8, 2 the output. It takes 20 bytes and two for each of a row, for each byte of the stream. Nothing is changed by a
+// refusal.
 pub fn run(
     size: Size,
     tree: Tree,
@@ -35,22 +38,22 @@ pub fn run(
     places: &mut [u8],
     stream: &[u8],
     out: &mut [u8],
-) -> Streamed
+) -> Result<Ran, Refusal>
     ensures { StreamEnds (records_of size tree node.old row.old) places.old stream.now out.old
-        result.answer (records_of size result.tree node.new row.new) places.new out.new result.end }
+        (answer_of result) (records_of size (tree_after tree result) node.new row.new) places.new out.new (end_of result) }
 {
-    if !soundness::sound(size, &tree.state, &tree.tag, &tree.parent, node, row) {
-        return refused(20, tree);
+    if !soundness::sound(size, &tree, node, row) {
+        return Err(Refusal::Unsound);
     }
     if places.len() != size.places * size.width {
-        return refused(2, tree);
+        return Err(Refusal::BadLength);
     }
     if stream.len() > 4096 {
-        return refused(8, tree);
+        return Err(Refusal::LongStream);
     }
     let width = size.width;
     if out.len() < room(width, stream.len()) {
-        return refused(2, tree);
+        return Err(Refusal::BadLength);
     }
     let first = Progress {
         size,
@@ -60,20 +63,8 @@ pub fn run(
         going: true,
     };
     let last = streaming::lines(stream, width, first, node, row, places, out);
-    let next = last.tree;
-    Streamed {
-        answer: 0,
-        tree: next,
+    Ok(Ran {
+        tree: last.tree,
         end: last.end,
-    }
-}
-
-fn refused(answer: u8, tree: Tree) -> Streamed
-    ensures { (result.answer ≡ answer) × (result.tree ≡ tree) × (result.end ≡ 0) }
-{
-    Streamed {
-        answer,
-        tree,
-        end: 0,
-    }
+    })
 }

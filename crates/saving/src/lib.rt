@@ -9,7 +9,6 @@ ghost use Rattle.owning.specs.Owning.{held, Writable};
 ghost use Rattle.saving.specs.Saving.{saving_by};
 
 use measures::{Row, Size};
-use tree::Found;
 use trees::Tree;
 
 // A shared row of the origin: its old bytes go to the free place of entry i, for node 0's child; then its own place is written.
@@ -28,8 +27,7 @@ pub fn save_row(
     ensures { held tree node.new row.new places.new
         ≡ saving_by (records_of size tree node.old row.old) places.old r.0 bytes.now (first_child tree 0) i }
 {
-    let found = nodes::child(&tree.state, &tree.tag, &tree.parent, 0);
-    let Found::At(c) = found else {
+    let Some(c) = nodes::child(&tree, 0) else {
         return;
     };
     let rows = size.rows;

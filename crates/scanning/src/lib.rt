@@ -12,12 +12,10 @@ pub fn among(xs: &[u16], x: u16) -> bool
     ensures { Decides result (Among xs.now x) }
 {
     let mut seen = false;
-    let mut i: usize = 0;
-    while i < xs.len() {
-        if xs[i] == x {
+    for y in xs {
+        if *y == x {
             seen = true;
         }
-        i += 1;
     }
     seen
 }
@@ -27,12 +25,10 @@ pub fn zero(bytes: &[u8]) -> bool
     ensures { Decides result (Below (Zero bytes.now) (length bytes.now)) }
 {
     let mut most: u8 = 0;
-    let mut i: usize = 0;
-    while i < bytes.len() {
-        if bytes[i] > most {
-            most = bytes[i];
+    for byte in bytes {
+        if *byte > most {
+            most = *byte;
         }
-        i += 1;
     }
     most == 0
 }

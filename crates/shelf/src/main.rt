@@ -16,6 +16,7 @@ fn read_full<R: Read>(from: &mut R, input: &mut [u8], count: &mut usize) -> io::
 {
     let mut done = 0;
     *count = 0;
+    // A `while`: how much each read gives is not known before, and `read_exact` says nothing of what an error leaves.
     while done < input.len() {
         let n = from.read(&mut input[done..])?;
         if n == 0 {

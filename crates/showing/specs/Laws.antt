@@ -8,7 +8,8 @@ use Rattle.measures.specs.Measures.{bytes_at, begins_at}
 use Rattle.records.specs.Records.{Records, tag_place}
 use Rattle.records.specs.Sound.{Sound}
 use Rattle.model.specs.Call.{read, count, one}
-use Rattle.answers.specs.Answers.{Refusal, handed, row, refused_of}
+use Rattle.answers.specs.declared.Refusal.{Refusal}
+use Rattle.answers.specs.Answers.{handed, row, refused_of}
 use Rattle.answers.specs.Tests.{refusal, unless}
 use Rattle.counting.specs.Counting.{counted, CountEnds}
 use Rattle.reads.specs.Reads.{ReadEnds, read_tests, read_answer, row_of_tag, sharers_of_tag}

@@ -1,34 +1,48 @@
 // A command's call that asks, with its line: what was counted or read, or a dash if it was refused.
 #![tactic(auto)]
 
+ghost use Rattle.std.specs.Prelude.{◌≡◌};
+ghost use Rattle.answers.specs.Answers.{number};
+ghost use Rattle.laying.specs.Laid.{Lays};
 ghost use Rattle.model.specs.Call.{read, count, one};
-ghost use Rattle.progress.specs.Replying.{line_room, Room, Answered, Answers};
+ghost use Rattle.progress.specs.Replying.{line_room, onward, Room, Answered, Answers};
+ghost use Rattle.text.specs.Text.{line, dash};
 
+use answers::Refusal;
 use measures::Row;
 use progress::Progress;
 
+// The run behind a refusal, and its line.
+fn refused(run: Progress, refusal: Refusal, out: &mut [u8]) -> Progress
+    requires { Room run 12 out.old }
+    ensures goes { result ≡ onward run run.tree result.end }
+    ensures lays { Lays out.old run.end (line run.line (number refusal) dash) out.new result.end }
+{
+    let number = usize::from(refusal.number());
+    let end = text::plain_line(out, run.end, run.line, number);
+    progress::on(run, run.tree, end)
+}
+
 // A count, and its line.
-pub fn count<'a>(run: Progress, node: &'a [u8], row: &'a [u16], out: &mut [u8]) -> Progress
+pub fn count(run: Progress, node: &[u8], row: &[u16], out: &mut [u8]) -> Progress
     requires { Room run 20 out.old }
     ensures { Answers run node.now row.now (one count) out.old result node.now row.now out.new }
 {
-    let tree = run.tree;
-    let c = counting::count(run.size, tree, node, row);
-    let answer = widen::byte(c.answer);
-    if answer != 0 {
-        let end = text::plain_line(out, run.end, run.line, answer);
-        return progress::on(run, tree, end);
+    match counting::count(run.size, run.tree, node, row) {
+        Ok(c) => {
+            let end = text::count_line(out, run.end, run.line, c.used, c.snapshots);
+            progress::on(run, run.tree, end)
+        }
+        Err(refusal) => refused(run, refusal, out),
     }
-    let end = text::count_line(out, run.end, run.line, c.used, c.snapshots);
-    progress::on(run, tree, end)
 }
 
 // A read of a row by its number in the stream, and its line.
-pub fn read<'a>(
+pub fn read(
     run: Progress,
-    node: &'a [u8],
-    row: &'a [u16],
-    places: &'a [u8],
+    node: &[u8],
+    row: &[u16],
+    places: &[u8],
     tag: u16,
     r: u16,
     out: &mut [u8],
@@ -37,25 +51,12 @@ pub fn read<'a>(
     ensures { Answered run node.now row.now places.now (one (read tag r)) out.old
         result node.now row.now places.now out.new }
 {
-    let tree = run.tree;
-    let mut number: u8 = 0;
-    let mut sharers: usize = 0;
-    let bytes = queries::read(
-        run.size,
-        tree,
-        node,
-        row,
-        places,
-        tag,
-        Row(widen::pair(r)),
-        &mut number,
-        &mut sharers,
-    );
-    let answer = widen::byte(number);
-    if answer != 0 {
-        let end = text::plain_line(out, run.end, run.line, answer);
-        return progress::on(run, tree, end);
+    let r = Row(usize::from(r));
+    match queries::read(run.size, run.tree, node, row, places, tag, r) {
+        Ok(lent) => {
+            let end = text::row_line(out, run.end, run.line, lent.bytes, lent.sharers);
+            progress::on(run, run.tree, end)
+        }
+        Err(refusal) => refused(run, refusal, out),
     }
-    let end = text::row_line(out, run.end, run.line, bytes, sharers);
-    progress::on(run, tree, end)
 }

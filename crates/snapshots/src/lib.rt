@@ -1,50 +1,39 @@
 // Taking a snapshot: its tests, and the tree that it leaves. No place is touched.
 #![tactic(auto)]
 
+ghost use Rattle.answers.specs.Results.{answer_of, left_of};
 ghost use Rattle.records.specs.Records.{records_of};
 ghost use Rattle.takes.specs.Taking.{SnapshotEnds};
 
+use answers::Refusal;
 use measures::Size;
-use tree::Found;
 use trees::Tree;
 
-// An answer, and the tree of the records: as it was if refused.
-#[derive(Clone, Copy)]
-pub struct Snapped {
-    pub answer: u8,
-    pub tree: Tree,
-}
-
 // Refusals: 20, 4, 21, 22, 23.
-pub fn snapshot<'a>(
+pub fn snapshot(
     size: Size,
     tree: Tree,
-    node: &'a [u8],
-    row: &'a [u16],
+    node: &[u8],
+    row: &[u16],
     source: u16,
     new: u16,
-) -> Snapped
-    ensures { SnapshotEnds (records_of size tree node.now row.now) source new result.answer result.tree }
+) -> Result<Tree, Refusal>
+    ensures { SnapshotEnds (records_of size tree node.now row.now) source new (answer_of result) (left_of tree result) }
 {
-    if !soundness::sound(size, &tree.state, &tree.tag, &tree.parent, node, row) {
-        return Snapped { answer: 20, tree };
+    if !soundness::sound(size, &tree, node, row) {
+        return Err(Refusal::Unsound);
     }
     if new == 0 {
-        return Snapped { answer: 4, tree };
+        return Err(Refusal::ZeroTag);
     }
-    let found = tree::version(&tree.state, &tree.tag, &tree.parent, source);
-    let Found::At(v) = found else {
-        return Snapped { answer: 21, tree };
+    let Some(v) = tree::version(&tree, source) else {
+        return Err(Refusal::UnknownTag);
     };
-    let other = tree::version(&tree.state, &tree.tag, &tree.parent, new);
-    if let Found::At(_) = other {
-        return Snapped { answer: 22, tree };
+    if let Some(_) = tree::version(&tree, new) {
+        return Err(Refusal::TagAlive);
     }
-    if tree::snapshots(&tree.state, &tree.tag, &tree.parent) >= 64 {
-        return Snapped { answer: 23, tree };
+    if tree::snapshots(&tree) >= 64 {
+        return Err(Refusal::SnapshotsFull);
     }
-    Snapped {
-        answer: 0,
-        tree: growing::with_snapshot(tree, v, new),
-    }
+    Ok(growing::with_snapshot(tree, v, new))
 }

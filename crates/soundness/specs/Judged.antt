@@ -3,7 +3,8 @@ use Rattle.std.specs.Prelude.{◌≡◌, ℕ}
 use Rattle.std.proofs.Math.Option.{Option, none, some}
 use Rattle.records.specs.Records.{Records}
 use Rattle.records.specs.Sound.{Sound}
-use Rattle.answers.specs.Answers.{Refusal, number}
+use Rattle.answers.specs.declared.Refusal.{Refusal}
+use Rattle.answers.specs.Answers.{number}
 use Rattle.answers.specs.Tests.{unless, verdict_number}
 
 -- what holds of a call on sound records, and on others

@@ -9,7 +9,9 @@ use Rattle.measures.specs.Measures.{rows_with}
 use Rattle.records.specs.Records.{Records, lives}
 use Rattle.model.specs.Call.{write, border}
 use Rattle.model.specs.Model.{Model, verdict, effect, after, border_tests, bordered, reply, next}
-use Rattle.answers.specs.Answers.{Refusal, bad_length, handed}
+use Rattle.answers.specs.declared.Refusal.{Refusal}
+use Rattle.answers.specs.declared.Refusal.TheVariants.{BadLength}
+use Rattle.answers.specs.Answers.{handed}
 use Rattle.answers.specs.Tests.{refusal, unless, verdict_number}
 use Rattle.answers.proofs.Laws.{refusal_next, refusal_same}
 use Rattle.answers.specs.InOrder.{stopped, in_order}
@@ -49,7 +51,7 @@ module _ (z : Records) (places : List ℕ) (m : Model) (run : Runs z places m) w
   unfolding border_verdict store.border_tests border_tests
   border_verdicts tag rows bytes =
       let a : lives z tag ≡ alive m.snapshots tag = sym (view_alive z run.store.sound places tag) ∙ run.agrees.rows.living tag in
-      refusal_same _ _ _ _ (λ x. refusal_next bad_length _ (not_no (eq-eqb _ _ run.store.size)) ∙ rw a)
+      refusal_same _ _ _ _ (λ x. refusal_next BadLength _ (not_no (eq-eqb _ _ run.store.size)) ∙ rw a)
 
   bordered_alike : (tag : ℕ) (rows bytes : List ℕ) → Alike (Goes z.size) (store.bordered z places tag rows bytes) (bordered z.size m tag rows bytes)
   unfolding store.bordered bordered

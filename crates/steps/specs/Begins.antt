@@ -8,7 +8,7 @@ use Rattle.measures.specs.declared.Size.{Size}
 use Rattle.measures.specs.Measures.{Within}
 use Rattle.trees.specs.declared.Tree.{Tree}
 use Rattle.records.specs.Records.{Records, records_of}
-use Rattle.answers.specs.Answers.{bad_size, bad_length}
+use Rattle.answers.specs.declared.Refusal.TheVariants.{BadSize, BadLength}
 use Rattle.model.specs.Model.{opened}
 use Rattle.answers.specs.Tests.{open_tests, in_measure, verdict_number}
 use Rattle.answers.proofs.Laws.{refusal_passed, measure_in}
@@ -29,10 +29,10 @@ pub record Fits (z : Size) (places node row : List ℕ) : Type 0 where
 pub open_fits : (z : Size) (places node row : List ℕ) → open_verdict z places node row ≡ none → Fits z places node row
 unfolding open_verdict open_tests
 open_fits z places node row e =
-    let (a, e₁) = refusal_passed (not (in_measure z)) bad_size _ e in
-    let (b, e₂) = refusal_passed (not (eqb (length places) (z.places * z.width))) bad_length _ e₁ in
-    let (c, e₃) = refusal_passed (not (eqb (length node) (z.places - z.rows))) bad_length _ e₂ in
-    let (d, e₄) = refusal_passed (not (eqb (length row) (z.places - z.rows))) bad_length _ e₃ in
+    let (a, e₁) = refusal_passed (not (in_measure z)) BadSize _ e in
+    let (b, e₂) = refusal_passed (not (eqb (length places) (z.places * z.width))) BadLength _ e₁ in
+    let (c, e₃) = refusal_passed (not (eqb (length node) (z.places - z.rows))) BadLength _ e₂ in
+    let (d, e₄) = refusal_passed (not (eqb (length row) (z.places - z.rows))) BadLength _ e₃ in
     record { within = measure_in z (not-false _ a); bytes = eqb-true _ _ (not-false _ b); nodes = eqb-true _ _ (not-false _ c); rows = eqb-true _ _ (not-false _ d) }
 
 first_whole : Whole first_tree

@@ -9,7 +9,8 @@ use Rattle.basics.specs.Decide.{both, not_of}
 use Rattle.measures.specs.Measures.{bytes_at}
 use Rattle.records.specs.Records.{Records, lives, tag_place}
 use Rattle.model.specs.Call.{delete}
-use Rattle.answers.specs.Answers.{Refusal, done, refused}
+use Rattle.answers.specs.declared.Refusal.{Refusal}
+use Rattle.answers.specs.Answers.{done, refused}
 use Rattle.copies.specs.Copies.{alive, without}
 use Rattle.model.specs.Model.{tests, accepted}
 use Rattle.answers.specs.Tests.{unless}

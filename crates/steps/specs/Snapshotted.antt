@@ -10,7 +10,8 @@ use Rattle.measures.specs.Measures.{bytes_at}
 use Rattle.trees.specs.declared.Tree.{Tree}
 use Rattle.records.specs.Records.{Records, lives, tag_place}
 use Rattle.model.specs.Call.{snapshot}
-use Rattle.answers.specs.Answers.{Refusal, done, refused}
+use Rattle.answers.specs.declared.Refusal.{Refusal}
+use Rattle.answers.specs.Answers.{done, refused}
 use Rattle.copies.specs.Copies.{alive, adopt}
 use Rattle.model.specs.Model.{tests, accepted}
 use Rattle.answers.specs.Tests.{unless}

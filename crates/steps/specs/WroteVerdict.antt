@@ -11,7 +11,7 @@ use Rattle.trees.specs.Reading.{place}
 use Rattle.records.specs.Records.{Records, table, lives}
 use Rattle.trees.specs.Trees.{version}
 use Rattle.model.specs.Call.{write}
-use Rattle.answers.specs.Answers.{bad_length, places_full}
+use Rattle.answers.specs.declared.Refusal.TheVariants.{BadLength, PlacesFull}
 use Rattle.copies.specs.Copies.{shared, places_used}
 use Rattle.model.specs.Model.{tests}
 use Rattle.answers.specs.Tests.{refusal}
@@ -35,7 +35,7 @@ module _ (z : Records) (places : List ℕ) (st : Store z places) (tag r : ℕ) (
       → refusal ((
         shared (view z places).tags (view z places).place tag r && leb z.size.places (places_used z.size.rows (view z places).tags (view z places).place)
             && not (equal bs ((view z places).content ((view z places).place (tag, r)))),
-        places_full,
+        PlacesFull,
       ) ∷ [])
       ≡ refusal (room_test z places (version z.tree tag) r bs)
   unfolding room_test untouched_at
@@ -45,4 +45,4 @@ module _ (z : Records) (places : List ℕ) (st : Store z places) (tag r : ℕ) (
   unfolding map_verdict tests write_verdict write_tests
   same_verdict =
       rw (view_alive z st.sound places tag) (refusal_same _ _ _ _ (λ x. refusal_same _ _ _ _ (λ y. refusal_same _ _ _ _ (λ l. same_room (not-false _ l)))))
-      ∙ sym (refusal_next bad_length _ (not_no (eq-eqb _ _ st.size)))
+      ∙ sym (refusal_next BadLength _ (not_no (eq-eqb _ _ st.size)))

@@ -2,6 +2,7 @@
 #![tactic(auto)]
 
 ghost use Rattle.std.proofs.Math.Option.{some};
+ghost use Rattle.answers.specs.Results.{answer_of, left_of};
 ghost use Rattle.records.specs.Records.{records_of, table};
 ghost use Rattle.sharing.specs.Sharing.{Finds};
 ghost use Rattle.answers.specs.Tests.{refusal};
@@ -10,10 +11,10 @@ ghost use Rattle.owning.specs.Owning.{held, Writable};
 ghost use Rattle.writes.specs.Unsharing.{full_test};
 ghost use Rattle.writes.specs.Storing.{written_at};
 
+use answers::Refusal;
 use measures::{Row, Size};
 use sharing::Looked;
 use trees::Tree;
-use unsharing::Written;
 
 // A row that has passed every test but 24, as the lookup finds it.
 pub fn store_row(
@@ -26,19 +27,19 @@ pub fn store_row(
     r: Row,
     bytes: &[u8],
     seen: Looked,
-) -> Written
+) -> Result<Tree, Refusal>
     requires { Writable (records_of size tree node.old row.old) places.old v r.0 bytes.now
         × Finds tree (table (records_of size tree node.old row.old)) v r.0 seen }
     ensures { Leaves (refusal (full_test (records_of size tree node.old row.old) (some v) r.0))
         (held tree node.old row.old places.old)
         (written_at (records_of size tree node.old row.old) places.old r.0 bytes.now v)
-        result.answer
-        (held result.tree node.new row.new places.new) }
+        (answer_of result)
+        (held (left_of tree result) node.new row.new places.new) }
 {
     let width = size.width;
     if seen.sharers < 2 {
         placing::put(places, width, seen.place, bytes);
-        return Written { answer: 0, tree };
+        return Ok(tree);
     }
     unsharing::unshare(size, tree, node, row, places, v, r, bytes)
 }

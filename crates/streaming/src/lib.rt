@@ -21,6 +21,7 @@ pub fn lines(
 {
     let mut reader = readers::make(stream);
     let mut run = first;
+    // A `while`: the run itself says when it is over.
     while run.going {
         let step = readers::command_here(reader, width);
         let next = step.next;

@@ -1,8 +1,8 @@
 -- Laws of the table's check: what the marks say after each entry, when going up meets a node, rules 6 and 7 one entry at a time. Assumes nothing.
-use Rattle.std.specs.Prelude.{◌≡◌, refl, ◌≢◌, ◌↔◌, Bool, true, false, List, ℕ, ◌+◌, ◌*◌, ◌/◌, ◌≤◌, ◌<◌, length, set, replicate}
-use Rattle.std.proofs.Common.{sym, ◌∙◌, ap, arith, length-set, get_or-set_same, get_or-set_other}
+use Rattle.std.specs.Prelude.{◌≡◌, refl, ◌≢◌, ◌↔◌, Bool, true, false, List, ℕ, eqb, ◌+◌, ◌*◌, ◌/◌, ◌≤◌, ◌<◌, length, set, replicate}
+use Rattle.std.proofs.Common.{sym, ◌∙◌, ap, arith, eqb-true, length-set, get_or-set_same, get_or-set_other}
 use Rattle.std.proofs.Math.Logic.{by_cases}
-use Rattle.std.proofs.lemmas.Bool.{false≢true}
+use Rattle.std.proofs.lemmas.Bool.{false≢true, eqb-false}
 use Rattle.std.proofs.Math.Decide.{ℕ_discrete, dec_lt}
 use Rattle.std.proofs.lemmas.List.{length-replicate, get_or-replicate}
 use Rattle.std.proofs.Math.ListN.{get_or-eq_default}
@@ -141,6 +141,14 @@ module _ (t : Tree) (e : Table) (marks : List ℕ) (i : ℕ) where
     decided = record { free = λ x. g; named = λ z. absurd (z f); once = λ j k z a b. z f };
     marked = λ x. marked_free e marks i f m;
   }
+
+  -- a free place fits if and only if its row is 0
+  pub entered_row : at e.node i ≡ 0 → Marked e marks i → Verdict (EntryFits t e i) e (i + 1) marks (eqb (at e.row i) 0)
+  entered_row f m = go (eqb (at e.row i) 0) refl
+    where
+      go : (b : Bool) → eqb (at e.row i) 0 ≡ b → Verdict (EntryFits t e i) e (i + 1) marks b
+      go true x = entered_free f (eqb-true _ 0 x) m
+      go false x = verdict_no e (i + 1) marks (λ h. eqb-false _ 0 x (h.free f))
 
   module _ (h : Entering e marks i) (n r : ℕ) (z : n ≢ 0) (o : Owns e n r i) where
     -- an exception that fits names what no entry before it names

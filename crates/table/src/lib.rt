@@ -3,10 +3,10 @@
 
 ghost use Rattle.std.specs.Prelude.{◌≡◌, ◌<◌};
 ghost use Rattle.basics.specs.Decide.{Decides};
-ghost use Rattle.trees.specs.Trees.{tree_of};
 ghost use Rattle.table.specs.Rules.{slot, Seeker, Meets};
 
 use measures::Row;
+use trees::Tree;
 
 // Where the mark for a node and a row stands among the bits.
 pub fn slot(n: usize, r: Row) -> usize
@@ -17,21 +17,12 @@ pub fn slot(n: usize, r: Row) -> usize
 }
 
 // Is g the first node, from n up, that has its own row r? It has one, and so it is marked.
-pub fn meets<'a>(
-    state: &'a [u8; 128],
-    tag: &'a [u16; 128],
-    parent: &'a [u8; 128],
-    marks: &'a [u8],
-    n: usize,
-    g: usize,
-    r: Row,
-) -> bool
-    requires { Seeker (tree_of state.now tag.now parent.now) marks.now n g r.0 }
-    ensures { Decides result (Meets (tree_of state.now tag.now parent.now) marks.now r.0 g n) }
+pub fn meets(tree: &Tree, marks: &[u8], n: usize, g: usize, r: Row) -> bool
+    requires { Seeker tree.now marks.now n g r.0 }
+    ensures { Decides result (Meets tree.now marks.now r.0 g n) }
 {
     let mut m = n;
-    let mut k: usize = 0;
-    while k < 128 {
+    for k in 0..128usize {
         if m == g {
             return true;
         }
@@ -41,8 +32,7 @@ pub fn meets<'a>(
         if bits::has(marks, slot(m, r)) {
             return false;
         }
-        m = widen::byte(parent[m]);
-        k += 1;
+        m = usize::from(tree.parent[m]);
     }
     false
 }

@@ -9,7 +9,7 @@ use Rattle.basics.specs.Decide.{at}
 use Rattle.records.specs.Records.{Records, lives}
 use Rattle.trees.specs.Trees.{snapshots, version}
 use Rattle.records.specs.Sound.{Sound}
-use Rattle.answers.specs.Answers.{zero_tag, unknown_tag, tag_alive, snapshots_full}
+use Rattle.answers.specs.declared.Refusal.TheVariants.{ZeroTag, UnknownTag, TagAlive, SnapshotsFull}
 use Rattle.answers.proofs.Laws.{refusal_passed}
 use Rattle.edits.specs.Edits.{with_tree, Whole, Copied}
 use Rattle.edits.proofs.Solve.{lives_node}
@@ -30,10 +30,10 @@ pub record Allowed (z : Records) (source new : ℕ) : Type 0 where
 pub snapshot_allowed : (z : Records) (source new : ℕ) → snapshot_verdict z source new ≡ none → Allowed z source new
 unfolding snapshot_verdict snapshot_tests
 snapshot_allowed z source new e =
-    let (a, e₁) = refusal_passed (eqb new 0) zero_tag _ e in
-    let (b, e₂) = refusal_passed (not (lives z source)) unknown_tag _ e₁ in
-    let (c, e₃) = refusal_passed (lives z new) tag_alive _ e₂ in
-    let (d, e₄) = refusal_passed (leb 64 (snapshots z.tree)) snapshots_full _ e₃ in
+    let (a, e₁) = refusal_passed (eqb new 0) ZeroTag _ e in
+    let (b, e₂) = refusal_passed (not (lives z source)) UnknownTag _ e₁ in
+    let (c, e₃) = refusal_passed (lives z new) TagAlive _ e₂ in
+    let (d, e₄) = refusal_passed (leb 64 (snapshots z.tree)) SnapshotsFull _ e₃ in
     record { named = eqb-false new 0 a; source_lives = not-false _ b; fresh = c; few = leb-false 64 (snapshots z.tree) d }
 
 module _ (z : Records) (w : Whole z.tree) (s : Sound z) (source new : ℕ) (a : Allowed z source new) where

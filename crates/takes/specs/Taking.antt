@@ -4,17 +4,19 @@ use Rattle.std.proofs.Math.Option.{Option, none, some}
 use Rattle.trees.specs.declared.Tree.{Tree}
 use Rattle.records.specs.Records.{Records, lives}
 use Rattle.trees.specs.Trees.{snapshots, version}
-use Rattle.answers.specs.Answers.{Refusal, zero_tag, unknown_tag, tag_alive, snapshots_full, unsound, number}
+use Rattle.answers.specs.declared.Refusal.{Refusal}
+use Rattle.answers.specs.declared.Refusal.TheVariants.{ZeroTag, UnknownTag, TagAlive, SnapshotsFull, Unsound}
+use Rattle.answers.specs.Answers.{number}
 use Rattle.answers.specs.Tests.{Tests, refusal}
 use Rattle.soundness.specs.Judged.{Judged, Leaves}
 use Rattle.growing.specs.Growing.{tree_at}
 
 unfoldable pub snapshot_tests : Records → ℕ → ℕ → Tests
 snapshot_tests z source new =
-    (eqb new 0, zero_tag)
-    ∷ (not (lives z source), unknown_tag)
-    ∷ (lives z new, tag_alive)
-    ∷ (leb 64 (snapshots z.tree), snapshots_full)
+    (eqb new 0, ZeroTag)
+    ∷ (not (lives z source), UnknownTag)
+    ∷ (lives z new, TagAlive)
+    ∷ (leb 64 (snapshots z.tree), SnapshotsFull)
     ∷ []
 
 unfoldable pub snapshot_verdict : Records → ℕ → ℕ → Option Refusal
@@ -31,4 +33,4 @@ snapshot_tree t source new = tree_by t (version t source) new
 -- The promise of a snapshot: on sound records the tests' number and the new tree, or the tree as it was; on others 20, and the tree as it was
 abbrev pub SnapshotEnds : Records → ℕ → ℕ → ℕ → Tree → Type 0
 SnapshotEnds z source new answer tree =
-    Judged z (Leaves (snapshot_verdict z source new) z.tree (snapshot_tree z.tree source new) answer tree) ((answer ≡ number unsound) × (tree ≡ z.tree))
+    Judged z (Leaves (snapshot_verdict z source new) z.tree (snapshot_tree z.tree source new) answer tree) ((answer ≡ number Unsound) × (tree ≡ z.tree))

@@ -11,9 +11,9 @@ fn head(out: &mut [u8], at: usize, k: usize, n: usize) -> usize
     ensures { Lays out.old at (head k n) out.new result }
 {
     let a = digits::decimal(out, at, k);
-    let b = laying::put(out, a, 32);
+    let b = laying::put(out, a, b' ');
     let c = digits::decimal(out, b, n);
-    laying::put(out, c, 32)
+    laying::put(out, c, b' ')
 }
 
 // Two numbers.
@@ -22,7 +22,7 @@ fn pair(out: &mut [u8], at: usize, used: usize, snapshots: usize) -> usize
     ensures { Lays out.old at (pair_text used snapshots) out.new result }
 {
     let a = digits::decimal(out, at, used);
-    let b = laying::put(out, a, 32);
+    let b = laying::put(out, a, b' ');
     digits::decimal(out, b, snapshots)
 }
 
@@ -32,7 +32,7 @@ fn row(out: &mut [u8], at: usize, bytes: &[u8], sharers: usize) -> usize
     ensures { Lays out.old at (row_text bytes.now sharers) out.new result }
 {
     let a = digits::hex(out, at, bytes);
-    let b = laying::put(out, a, 32);
+    let b = laying::put(out, a, b' ');
     digits::decimal(out, b, sharers)
 }
 
@@ -42,8 +42,8 @@ pub fn plain_line(out: &mut [u8], at: usize, k: usize, n: usize) -> usize
     ensures { Lays out.old at (line k n dash) out.new result }
 {
     let a = head(out, at, k, n);
-    let b = laying::put(out, a, 45);
-    laying::put(out, b, 10)
+    let b = laying::put(out, a, b'-');
+    laying::put(out, b, b'\n')
 }
 
 // The line of a row.
@@ -53,7 +53,7 @@ pub fn row_line(out: &mut [u8], at: usize, k: usize, bytes: &[u8], sharers: usiz
 {
     let a = head(out, at, k, 0);
     let b = row(out, a, bytes, sharers);
-    laying::put(out, b, 10)
+    laying::put(out, b, b'\n')
 }
 
 // The line of two counts.
@@ -63,5 +63,5 @@ pub fn count_line(out: &mut [u8], at: usize, k: usize, used: usize, snapshots: u
 {
     let a = head(out, at, k, 0);
     let b = pair(out, a, used, snapshots);
-    laying::put(out, b, 10)
+    laying::put(out, b, b'\n')
 }

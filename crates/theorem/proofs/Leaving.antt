@@ -6,7 +6,8 @@ use Rattle.basics.specs.Decide.{at}
 use Rattle.trees.specs.declared.Tree.{Tree}
 use Rattle.records.specs.Records.{Records}
 use Rattle.records.specs.Sound.{Sound}
-use Rattle.answers.specs.Answers.{Refusal, Answer}
+use Rattle.answers.specs.declared.Refusal.{Refusal}
+use Rattle.answers.specs.Answers.{Answer}
 use Rattle.answers.specs.Tests.{unless}
 use Rattle.answers.proofs.Laws.{unless_made}
 use Rattle.model.specs.Call.{write, Call, one, border}

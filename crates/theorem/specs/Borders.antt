@@ -9,7 +9,9 @@ use Rattle.std.proofs.lemmas.Bool.{not-false}
 use Rattle.basics.specs.Equal.{equal}
 use Rattle.measures.specs.declared.Size.{Size}
 use Rattle.measures.specs.Measures.{rows_with}
-use Rattle.answers.specs.Answers.{Refusal, bad_length, bad_row, unknown_tag, places_full, too_many_rows, number}
+use Rattle.answers.specs.declared.Refusal.{Refusal}
+use Rattle.answers.specs.declared.Refusal.TheVariants.{BadLength, BadRow, UnknownTag, PlacesFull, TooManyRows}
+use Rattle.answers.specs.Answers.{number}
 use Rattle.answers.specs.Tests.{refusal, unless}
 use Rattle.answers.proofs.Laws.{refusal_next, refusal_same, refusal_passed}
 use Rattle.answers.specs.InOrder.{stopped, one_more, in_order, ended_with}
@@ -22,7 +24,7 @@ abbrev AtRow : Option Refusal → Type 0
 AtRow none = Unit {0}
 AtRow (some r) = (number r ≡ 3) ⊎ (number r ≡ 24)
 
-two_left : (a b : Bool) → AtRow (refusal ((a, bad_row) ∷ (b, places_full) ∷ []))
+two_left : (a b : Bool) → AtRow (refusal ((a, BadRow) ∷ (b, PlacesFull) ∷ []))
 unfolding refusal
 two_left true b = inl refl
 two_left false true = inr refl
@@ -47,8 +49,8 @@ module _ (z : Size) (t : ℕ) where
   unfolding verdict tests
   write_at_row m r bs l a =
       let full = shared m.snapshots m.rows.mark t r && leb z.places (places_used z.rows m.snapshots m.rows.mark) && not (equal bs (m.rows.content (t, r))) in
-      let e : verdict z m (write t r bs) ≡ refusal ((leb z.rows r, bad_row) ∷ (full, places_full) ∷ []) =
-      refusal_next bad_length _ (ap not (eq-eqb (length bs) z.width l)) ∙ refusal_same (leb z.rows r) bad_row _ _ (λ k. refusal_next unknown_tag _ (ap not a)) in
+      let e : verdict z m (write t r bs) ≡ refusal ((leb z.rows r, BadRow) ∷ (full, PlacesFull) ∷ []) =
+      refusal_next BadLength _ (ap not (eq-eqb (length bs) z.width l)) ∙ refusal_same (leb z.rows r) BadRow _ _ (λ k. refusal_next UnknownTag _ (ap not a)) in
       rw e (two_left (leb z.rows r) full)
 
   rows_at_row : (m : Model) (xs : List (ℕ × List ℕ)) → alive m.snapshots t ≡ true → Wide z.width xs
@@ -66,9 +68,9 @@ module _ (z : Size) (t : ℕ) where
 passed : (z : Size) (m : Model) (t : ℕ) (rs bs : List ℕ) → refusal (border_tests z m.snapshots t rs bs) ≡ none → (length bs ≡ length rs * z.width) × (alive m.snapshots t ≡ true)
 unfolding border_tests
 passed z m t rs bs e =
-    let (a, e₁) = refusal_passed (leb 65 (length rs)) too_many_rows _ e in
-    let (b, e₂) = refusal_passed (not (eqb (length bs) (length rs * z.width))) bad_length _ e₁ in
-    let (c, e₃) = refusal_passed (not (alive m.snapshots t)) unknown_tag _ e₂ in
+    let (a, e₁) = refusal_passed (leb 65 (length rs)) TooManyRows _ e in
+    let (b, e₂) = refusal_passed (not (eqb (length bs) (length rs * z.width))) BadLength _ e₁ in
+    let (c, e₃) = refusal_passed (not (alive m.snapshots t)) UnknownTag _ e₂ in
     (eqb-true _ _ (not-false _ b), not-false _ c)
 
 -- another number is none of these

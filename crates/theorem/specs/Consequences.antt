@@ -14,7 +14,9 @@ use Rattle.measures.specs.declared.Size.{Size}
 use Rattle.measures.specs.Measures.{rows_with}
 use Rattle.measures.specs.Rows.{rows_long}
 use Rattle.model.specs.Call.{Single, snapshot, read, write, delete, count, Call, one, border}
-use Rattle.answers.specs.Answers.{Refusal, bad_length, bad_row, unknown_tag, places_full, too_many_rows, number, Answer, done, row, refused_of, refused}
+use Rattle.answers.specs.declared.Refusal.{Refusal}
+use Rattle.answers.specs.declared.Refusal.TheVariants.{BadLength, BadRow, UnknownTag, PlacesFull, TooManyRows}
+use Rattle.answers.specs.Answers.{number, Answer, done, row, refused_of, refused}
 use Rattle.copies.specs.Copies.{Cell, alive, snapshots_alive, shared, sharers, places_used, adopt, renewed}
 use Rattle.model.specs.Model.{Model, tests, accepted, effect, verdict, answer, after, border_tests, bordered, reply, next, final}
 use Rattle.answers.specs.Tests.{Tests, or_else, refusal, unless, verdict_number}
@@ -32,19 +34,19 @@ not_refused none a e = refl
 not_refused (some r) a e = absurd (number_some r e)
 
 -- the last test of a write alone
-full_iff : (b : Bool) → (unless (refusal ((b, places_full) ∷ [])) refused done).number ≡ 24 ↔ b ≡ true
+full_iff : (b : Bool) → (unless (refusal ((b, PlacesFull) ∷ [])) refused done).number ≡ 24 ↔ b ≡ true
 unfolding refusal
 full_iff true = (λ e. refl, λ e. refl)
 full_iff false = (λ e. absurd (omega arith), λ e. absurd (false≢true e))
 
-full_not : (b : Bool) → (b ≡ true → ⊥) → (unless (refusal ((b, places_full) ∷ [])) refused done).number ≡ 0
+full_not : (b : Bool) → (b ≡ true → ⊥) → (unless (refusal ((b, PlacesFull) ∷ [])) refused done).number ≡ 0
 unfolding refusal
 full_not true h = absurd (h refl)
 full_not false h = refl
 
 -- a last test that does not hold refuses nothing
 never_full : (a b c d : Bool)
-    → (unless (refusal ((a, bad_length) ∷ (b, bad_row) ∷ (c, unknown_tag) ∷ (d && false, places_full) ∷ [])) refused done).number ≢ 24
+    → (unless (refusal ((a, BadLength) ∷ (b, BadRow) ∷ (c, UnknownTag) ∷ (d && false, PlacesFull) ∷ [])) refused done).number ≢ 24
 unfolding refusal
 never_full true b c d = omega arith
 never_full false true c d = omega arith
@@ -72,7 +74,7 @@ module _ (z : Size) (m : Model) where
   )
 
   -- a write that passes the tests before it has that one left
-  write_left_lem : (t r : ℕ) (bs : List ℕ) → length bs ≡ z.width → r < z.rows → alive m.snapshots t ≡ true → verdict z m (write t r bs) ≡ refusal ((wants t r bs, places_full) ∷ [])
+  write_left_lem : (t r : ℕ) (bs : List ℕ) → length bs ≡ z.width → r < z.rows → alive m.snapshots t ≡ true → verdict z m (write t r bs) ≡ refusal ((wants t r bs, PlacesFull) ∷ [])
   unfolding verdict tests
   write_left_lem t r bs l k a =
       refusal_next _ _ (ap not (eq-eqb (length bs) z.width l)) ∙ refusal_next _ _ (lt-leb z.rows r k) ∙ refusal_next _ _ (ap not a)
@@ -180,7 +182,7 @@ never_unsound z m (border t rs bs) = go (leb 65 (length rs)) (not (eqb (length b
     rows : verdict_number (in_order (λ n x. verdict z n (write t x.0 x.1)) (λ n x. effect n (write t x.0 x.1)) m (rows_with z.width rs bs)).refusal ≢ 20
     rows = order_refusal (λ n x. verdict z n (write t x.0 x.1)) (λ n x. effect n (write t x.0 x.1)) (λ v. verdict_number v ≢ 20) (omega arith) (λ n x. write_other z n t x.0 x.1) m (rows_with z.width rs bs)
 
-    go : (a b c : Bool) → (ended_with (unless (or_else a too_many_rows (or_else b bad_length (or_else c unknown_tag none))) (stopped m)
+    go : (a b c : Bool) → (ended_with (unless (or_else a TooManyRows (or_else b BadLength (or_else c UnknownTag none))) (stopped m)
         (in_order (λ n x. verdict z n (write t x.0 x.1)) (λ n x. effect n (write t x.0 x.1)) m (rows_with z.width rs bs)))).number ≢ 20
     go true b c = omega arith
     go false true c = omega arith

@@ -5,7 +5,7 @@ use Rattle.std.proofs.Math.Option.{Option, none, some}
 use Rattle.trees.specs.declared.Tree.{Tree}
 use Rattle.records.specs.Records.{Records}
 use Rattle.trees.specs.Trees.{version}
-use Rattle.answers.specs.Answers.{Refusal}
+use Rattle.answers.specs.declared.Refusal.{Refusal}
 use Rattle.answers.specs.Tests.{unless}
 use Rattle.edits.specs.Edits.{with_tree, Whole, grown}
 use Rattle.nodes.specs.Nodes.{empty_node, first_child}

@@ -3,6 +3,7 @@
 
 ghost use Rattle.std.specs.Prelude.{◌≡◌};
 ghost use Rattle.std.proofs.Math.Option.{some};
+ghost use Rattle.answers.specs.Results.{answer_of, left_of};
 ghost use Rattle.basics.specs.Equal.{equal};
 ghost use Rattle.measures.specs.Measures.{bytes_at};
 ghost use Rattle.placing.specs.Placing.{Inside};
@@ -12,16 +13,16 @@ ghost use Rattle.soundness.specs.Judged.{Leaves};
 ghost use Rattle.owning.specs.Owning.{held, Writable};
 ghost use Rattle.writes.specs.Touching.{room_test, saved_at};
 
+use answers::Refusal;
 use measures::{Place, Row, Size};
-use trees::Tree;
-use unsharing::Written;
+use trees::{Entries, Tree};
 
 // Does the place hold these bytes already?
-fn holds<'a>(places: &'a [u8], width: usize, place: Place, bytes: &'a [u8]) -> bool
+fn holds(places: &[u8], width: usize, place: Place, bytes: &[u8]) -> bool
     requires { Inside places.now width place.0 }
     ensures { result ≡ equal bytes.now (bytes_at width places.now place.0) }
 {
-    comparing::same(bytes, placing::part(places, width, place))
+    bytes == placing::part(places, width, place)
 }
 
 // A row that has passed every test but 24.
@@ -34,19 +35,27 @@ pub fn save_row(
     v: usize,
     r: Row,
     bytes: &[u8],
-) -> Written
+) -> Result<Tree, Refusal>
     requires { Writable (records_of size tree node.old row.old) places.old v r.0 bytes.now }
     ensures { Leaves (refusal (room_test (records_of size tree node.old row.old) places.old (some v) r.0 bytes.now))
         (held tree node.old row.old places.old)
         (saved_at (records_of size tree node.old row.old) places.old r.0 bytes.now v)
-        result.answer
-        (held result.tree node.new row.new places.new) }
+        (answer_of result)
+        (held (left_of tree result) node.new row.new places.new) }
 {
-    let rows = size.rows;
     let width = size.width;
-    let seen = sharing::lookup(&tree.state, &tree.tag, &tree.parent, rows, node, row, v, r);
+    let seen = sharing::lookup(
+        &tree,
+        &Entries {
+            rows: size.rows,
+            node,
+            row,
+        },
+        v,
+        r,
+    );
     if holds(places, width, seen.place, bytes) {
-        return Written { answer: 0, tree };
+        return Ok(tree);
     }
     storing::store_row(size, tree, node, row, places, v, r, bytes, seen)
 }

@@ -1,73 +1,62 @@
-// The lines that the tour writes: what a count and a read of a store answer.
+// The lines that the tour writes: what an opening, a count and a read of a store answer.
 #![tactic(auto)]
 
+use answers::{Refusal, answer_of};
 use measures::{Row, Size};
-use std::io;
+use std::{fmt, io};
 use trees::Tree;
 
-// Words, and a number behind them.
-pub fn show(rt: &impl Print, words: &[u8], n: usize) -> io::Result<()> {
-    rt.write_all(words)?;
-    rt.print(n)
+// A store: its measures, its tree, and what it is lent.
+#[derive(Clone, Copy)]
+pub struct Store<'a> {
+    pub size: Size,
+    pub tree: Tree,
+    pub node: &'a [u8],
+    pub row: &'a [u16],
+    pub places: &'a [u8],
 }
 
-pub fn end_line(rt: &impl Print) -> io::Result<()> {
-    rt.write_all(b"\n")
-}
+// The bytes of a row, two digits each.
+#[derive(Clone, Copy)]
+struct Hex<'a>(&'a [u8]);
 
-pub fn show_count<'a>(
-    rt: &impl Print,
-    size: Size,
-    tree: Tree,
-    node: &'a [u8],
-    row: &'a [u16],
-) -> io::Result<()> {
-    let c = counting::count(size, tree, node, row);
-    show(rt, b"count: answer ", widen::byte(c.answer))?;
-    show(rt, b", places in use ", c.used)?;
-    show(rt, b", snapshots alive ", c.snapshots)?;
-    end_line(rt)
-}
-
-fn show_byte(rt: &impl Print, b: u8) -> io::Result<()> {
-    print!(rt; "{b:02x}")
-}
-
-fn show_row(rt: &impl Print, bytes: &[u8]) -> io::Result<()> {
-    for b in bytes {
-        show_byte(rt, *b)?;
+impl fmt::Display for Hex<'_> {
+    fn fmt<W: fmt::Write>(&self, f: &mut fmt::Formatter<W>) -> fmt::Result {
+        for byte in self.0 {
+            write!(f, "{byte:02x}")?;
+        }
+        Ok(())
     }
-    Ok(())
 }
 
-pub fn show_read<'a>(
-    rt: &impl Print,
-    size: Size,
-    tree: Tree,
-    node: &'a [u8],
-    row: &'a [u16],
-    places: &'a [u8],
-    tag: u16,
-    r: usize,
-) -> io::Result<()> {
-    let mut answer: u8 = 0;
-    let mut sharers: usize = 0;
-    let bytes = queries::read(
-        size,
-        tree,
-        node,
-        row,
-        places,
-        tag,
-        Row(r),
-        &mut answer,
-        &mut sharers,
-    );
-    show(rt, b"read tag ", widen::pair(tag))?;
-    show(rt, b" row ", r)?;
-    show(rt, b": answer ", widen::byte(answer))?;
-    show(rt, b", sharers ", sharers)?;
-    rt.write_all(b", bytes ")?;
-    show_row(rt, bytes)?;
-    end_line(rt)
+pub fn show_open(rt: &impl Print, opened: &Result<Tree, Refusal>) -> io::Result<()> {
+    println!(rt; "open: answer {}", answer_of(opened))
+}
+
+impl Store<'_> {
+    pub fn show_count(&self, rt: &impl Print) -> io::Result<()> {
+        let counted = counting::count(self.size, self.tree, self.node, self.row);
+        let answer = answer_of(&counted);
+        let (used, snapshots) = counted.map_or((0, 0), |c| (c.used, c.snapshots));
+        println!(rt; "count: answer {answer}, places in use {used}, snapshots alive {snapshots}")
+    }
+
+    pub fn show_read(&self, rt: &impl Print, tag: u16, row: usize) -> io::Result<()> {
+        let read = queries::read(
+            self.size,
+            self.tree,
+            self.node,
+            self.row,
+            self.places,
+            tag,
+            Row(row),
+        );
+        let answer = answer_of(&read);
+        let (bytes, sharers) = read.map_or(
+            (&self.places[..0], 0),
+            |lent| (lent.bytes, lent.sharers),
+        );
+        let bytes = Hex(bytes);
+        println!(rt; "read tag {tag} row {row}: answer {answer}, sharers {sharers}, bytes {bytes}")
+    }
 }

@@ -1,16 +1,16 @@
 -- The tree's rules together, what a climb asks, and what a search found. Assumes nothing.
-use Rattle.std.specs.Prelude.{◌≡◌, refl, ◌≢◌, ℕ, ◌<◌}
-use Rattle.std.proofs.Math.Option.{Option, none, some}
+use Rattle.std.specs.Prelude.{◌≡◌, refl, ◌≢◌, ℕ, ◌<◌, Option, Some, None}
+use Rattle.std.proofs.Math.Option as math
+use Rattle.std.proofs.Math.Option.{none, some}
 use Rattle.std.proofs.Common.{arith}
 use Rattle.trees.specs.declared.Tree.{Tree}
 use Rattle.trees.specs.Trees.{InUse, up}
 use Rattle.trees.specs.Rules.{States, Linked, Tagged, Branching}
-use Rattle.tree.specs.declared.Found.{Found}
-use Rattle.tree.specs.declared.Found.TheVariants.{At, Missing}
 
-abbrev pub found_of : Option ℕ → Found
-found_of (some n) = At n
-found_of none = Missing
+-- what was found, as the program has it
+abbrev pub found_of : math.Option ℕ → Option ℕ
+found_of (some n) = Some n
+found_of none = None
 
 -- the rules 2 to 5
 pub record TreeSound (t : Tree) : Type 0 where
@@ -31,11 +31,11 @@ pub record Climbs (t : Tree) (n : ℕ) : Type 0 where
   pub parents : Parents t
   pub used : InUse t n
 
--- what was found, from the enum
-pub found_at : (o : Option ℕ) (n : ℕ) → At n ≡ found_of o → o ≡ some n
+-- and back
+pub found_at : (o : math.Option ℕ) (n : ℕ) → Some n ≡ found_of o → o ≡ some n
 found_at (some m) n e = cc
-found_at none n e = let z : ◌≡◌ {A = ℕ} 0 1 = cc in absurd (omega arith)
+found_at none n e = absurd cc
 
-pub found_missing : (o : Option ℕ) → Missing ≡ found_of o → o ≡ none
-found_missing (some m) e = let z : ◌≡◌ {A = ℕ} 0 1 = cc in absurd (omega arith)
+pub found_missing : (o : math.Option ℕ) → None ≡ found_of o → o ≡ none
+found_missing (some m) e = absurd cc
 found_missing none e = refl

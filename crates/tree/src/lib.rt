@@ -2,62 +2,42 @@
 #![tactic(auto)]
 
 ghost use Rattle.std.specs.Prelude.{◌≡◌};
-ghost use Rattle.trees.specs.Trees.{tree_of, snapshots, version};
+ghost use Rattle.trees.specs.Trees.{snapshots, version};
 ghost use Rattle.tree.specs.Rules.{found_of};
 
-#[derive(Clone, Copy)]
-pub enum Found {
-    At(usize),
-    Missing,
-}
+use trees::Tree;
 
 // The living node with a tag, one node after the other.
-fn search<'a>(
-    state: &'a [u8; 128],
-    tag: &'a [u16; 128],
-    parent: &'a [u8; 128],
-    wanted: u16,
-) -> Found
-    ensures { result ≡ found_of (version (tree_of state.now tag.now parent.now) wanted) }
+fn search(tree: &Tree, wanted: u16) -> Option<usize>
+    ensures { result ≡ found_of (version tree.now wanted) }
 {
-    let mut n: usize = 0;
-    while n < 128 {
-        if state[n] == 1 {
-            if tag[n] == wanted {
-                return Found::At(n);
-            }
+    for n in 0..128 {
+        if tree.state[n] == 1 && tree.tag[n] == wanted {
+            return Some(n);
         }
-        n += 1;
     }
-    Found::Missing
+    None
 }
 
 // The living node with a tag. A tag that no node has is not searched for.
-pub fn version<'a>(
-    state: &'a [u8; 128],
-    tag: &'a [u16; 128],
-    parent: &'a [u8; 128],
-    wanted: u16,
-) -> Found
-    ensures { result ≡ found_of (version (tree_of state.now tag.now parent.now) wanted) }
+pub fn version(tree: &Tree, wanted: u16) -> Option<usize>
+    ensures { result ≡ found_of (version tree.now wanted) }
 {
-    if !scanning::among(tag, wanted) {
-        return Found::Missing;
+    if !scanning::among(&tree.tag, wanted) {
+        return None;
     }
-    search(state, tag, parent, wanted)
+    search(tree, wanted)
 }
 
 // How many snapshots are alive, counted in a byte: so the compiler takes many nodes at once.
-pub fn snapshots<'a>(state: &'a [u8; 128], tag: &'a [u16; 128], parent: &'a [u8; 128]) -> usize
-    ensures { result ≡ snapshots (tree_of state.now tag.now parent.now) }
+pub fn snapshots(tree: &Tree) -> usize
+    ensures { result ≡ snapshots tree.now }
 {
     let mut alive: u8 = 0;
-    let mut n: usize = 1;
-    while n < 128 {
-        if state[n] == 1 {
+    for n in 1..128 {
+        if tree.state[n] == 1 {
             alive += 1;
         }
-        n += 1;
     }
     alive as usize
 }

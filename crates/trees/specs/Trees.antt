@@ -21,6 +21,7 @@ use Rattle.std.proofs.Math.Option.{Option}
 use Rattle.basics.specs.Decide.{at}
 use Rattle.basics.specs.Count.{count, first}
 use Rattle.trees.specs.declared.Tree.{Tree}
+use Rattle.trees.specs.declared.Entries.{Entries}
 
 -- The exceptions, as document 01 calls them (SPEC 4). Entry i stands for place rows + i: it has a node, 0 if the place is free, and a row.
 pub record Table : Type 0 where
@@ -34,6 +35,10 @@ tree_of state tag parent = record { state = state; tag = tag; parent = parent }
 
 abbrev pub table_of : ℕ → List ℕ → List ℕ → Table
 table_of rows node row = record { rows = rows; node = node; row = row }
+
+-- from the entries as they are lent
+abbrev pub entries_of : Entries → Table
+entries_of e = table_of e.rows e.node.now e.row.now
 
 -- Nodes
 

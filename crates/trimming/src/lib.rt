@@ -3,20 +3,19 @@
 
 ghost use Rattle.std.specs.Prelude.{◌≡◌, length};
 ghost use Rattle.basics.specs.Decide.{Decides};
-ghost use Rattle.trees.specs.Trees.{tree_of, Snapshot};
+ghost use Rattle.trees.specs.Trees.{Snapshot};
 ghost use Rattle.tree.specs.Rules.{Parents};
 ghost use Rattle.trimming.specs.Trimmed.{Loose, own_freed};
 
+use trees::Tree;
+
 // Is the version at node v such a one?
-pub fn loose<'a>(state: &'a [u8; 128], tag: &'a [u16; 128], parent: &'a [u8; 128], v: usize) -> bool
-    requires { Snapshot (tree_of state.now tag.now parent.now) v × Parents (tree_of state.now tag.now parent.now) }
-    ensures { Decides result (Loose (tree_of state.now tag.now parent.now) v) }
+pub fn loose(tree: &Tree, v: usize) -> bool
+    requires { Snapshot tree.now v × Parents tree.now }
+    ensures { Decides result (Loose tree.now v) }
 {
-    let p = widen::byte(parent[v]);
-    if state[p] != 1 {
-        return false;
-    }
-    nodes::childless(state, tag, parent, v)
+    let p = usize::from(tree.parent[v]);
+    tree.state[p] == 1 && nodes::childless(tree, v)
 }
 
 // Every entry of node v becomes free.
@@ -24,12 +23,10 @@ pub fn free_own(node: &mut [u8], row: &mut [u16], v: usize)
     requires { length row.old ≡ length node.old }
     ensures { (node.new ≡ own_freed v node.old node.old) × (row.new ≡ own_freed v node.old row.old) }
 {
-    let mut i: usize = 0;
-    while i < node.len() {
-        if widen::byte(node[i]) == v {
+    for i in 0..node.len() {
+        if usize::from(node[i]) == v {
             node[i] = 0;
             row[i] = 0;
         }
-        i += 1;
     }
 }

@@ -8,7 +8,9 @@ use Rattle.records.specs.Records.{Records}
 use Rattle.counting.specs.Counting.{count_answer}
 use Rattle.reads.specs.Reads.{read_tests, row_of_tag, sharers_of_tag, read_answer}
 use Rattle.model.specs.Call.{read, count}
-use Rattle.answers.specs.Answers.{Refusal, bad_length, row, counts, refused_of}
+use Rattle.answers.specs.declared.Refusal.{Refusal}
+use Rattle.answers.specs.declared.Refusal.TheVariants.{BadLength}
+use Rattle.answers.specs.Answers.{row, counts, refused_of}
 use Rattle.model.specs.Model.{tests, accepted}
 use Rattle.answers.specs.Tests.{refusal, unless}
 use Rattle.answers.proofs.Laws.{unless_same, refusal_next}
@@ -32,7 +34,7 @@ module _ (z : Records) (places : List ℕ) (st : Store z places) where
   -- with places of the right length the tests of read are the map's
   read_verdict : (tag r : ℕ) → refusal (read_tests z (length places) tag r) ≡ map_verdict z.size (view z places) (read tag r)
   unfolding read_tests map_verdict tests
-  read_verdict tag r = refusal_next bad_length _ (not_no (eq-eqb _ _ st.size)) ∙ rw (view_alive z st.sound places tag)
+  read_verdict tag r = refusal_next BadLength _ (not_no (eq-eqb _ _ st.size)) ∙ rw (view_alive z st.sound places tag)
 
   -- an accepted read's number is the map's
   read_sharers : (tag r : ℕ) → map_verdict z.size (view z places) (read tag r) ≡ none → sharers_of_tag z tag r ≡ sharers (view z places).tags (view z places).place tag r

@@ -4,7 +4,7 @@ use Rattle.std.proofs.Common.{◌∙◌}
 use mathlib.Core.List.{List, []}
 use Rattle.std.proofs.Math.Option.{none, some}
 use Rattle.records.specs.Records.{Records, table}
-use Rattle.answers.specs.Answers.{places_full}
+use Rattle.answers.specs.declared.Refusal.TheVariants.{PlacesFull}
 use Rattle.answers.specs.Tests.{refusal}
 use Rattle.answers.proofs.Laws.{refusal_next, refusal_none}
 use Rattle.sharing.specs.Sharing.{free_entry, shared_at}
@@ -14,7 +14,7 @@ use Rattle.writes.specs.Storing.{held_in_place, written_at}
 module _ (z : Records) (places : List ℕ) (r : ℕ) (bs : List ℕ) (v : ℕ) where
   pub unshared_passes : shared_at z.tree (table z) v r ≡ false → refusal (full_test z (some v) r) ≡ none
   unfolding full_test
-  unshared_passes h = refusal_next places_full [] (rw h) ∙ refusal_none
+  unshared_passes h = refusal_next PlacesFull [] (rw h) ∙ refusal_none
 
   pub written_in_place : shared_at z.tree (table z) v r ≡ false → written_at z places r bs v ≡ held_in_place z places r bs v
   unfolding written_at

@@ -9,7 +9,7 @@ use Rattle.measures.specs.Measures.{bytes_at}
 use Rattle.records.specs.Records.{Records, table}
 use Rattle.trees.specs.Trees.{used}
 use Rattle.trees.specs.Reading.{place}
-use Rattle.answers.specs.Answers.{places_full}
+use Rattle.answers.specs.declared.Refusal.TheVariants.{PlacesFull}
 use Rattle.answers.specs.Tests.{refusal}
 use Rattle.answers.proofs.Laws.{refusal_next, refusal_none}
 use Rattle.sharing.specs.Sharing.{shared_at}
@@ -46,11 +46,11 @@ module _ (z : Records) (places : List ℕ) (r : ℕ) (bs : List ℕ) (v : ℕ) w
 
   pub untouched_passes : untouched_at z places r bs v ≡ true → refusal (room_test z places (some v) r bs) ≡ none
   unfolding room_test
-  untouched_passes e = refusal_next places_full [] (wants_none (shared_at z.tree (table z) v r) (leb z.size.places (used (table z))) e) ∙ refusal_none
+  untouched_passes e = refusal_next PlacesFull [] (wants_none (shared_at z.tree (table z) v r) (leb z.size.places (used (table z))) e) ∙ refusal_none
 
   pub touched_test : untouched_at z places r bs v ≡ false → refusal (room_test z places (some v) r bs) ≡ refusal (full_test z (some v) r)
   unfolding room_test full_test
-  touched_test e = ap (λ (b : Bool). refusal ((b, places_full) ∷ [])) (wants_as (shared_at z.tree (table z) v r) (leb z.size.places (used (table z))) e)
+  touched_test e = ap (λ (b : Bool). refusal ((b, PlacesFull) ∷ [])) (wants_as (shared_at z.tree (table z) v r) (leb z.size.places (used (table z))) e)
 
   pub untouched_left : untouched_at z places r bs v ≡ true → saved_at z places r bs v ≡ held z.tree z.node z.row places
   unfolding saved_at

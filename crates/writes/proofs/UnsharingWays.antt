@@ -10,7 +10,7 @@ use Rattle.basics.proofs.CountLaws.{count_most}
 use Rattle.trees.specs.Trees.{Table, taken, used}
 use Rattle.records.specs.Records.{Records, table}
 use Rattle.records.specs.Sound.{Sound}
-use Rattle.answers.specs.Answers.{places_full}
+use Rattle.answers.specs.declared.Refusal.TheVariants.{PlacesFull}
 use Rattle.answers.specs.Tests.{refusal}
 use Rattle.answers.proofs.Laws.{refusal_here, refusal_next, refusal_none}
 use Rattle.nodes.specs.Nodes.{first_child}
@@ -30,13 +30,13 @@ module _ (z : Records) (s : Sound z) (v r : ℕ) where
   all_places : z.size.rows + length z.node ≡ z.size.places
   all_places = let m = s.measured in omega (arith, m.nodes, m.within.places.0)
 
-  pub full_refused : shared_at z.tree (table z) v r ≡ true → free_entry z.node ≡ none → refusal (full_test z (some v) r) ≡ some places_full
+  pub full_refused : shared_at z.tree (table z) v r ≡ true → free_entry z.node ≡ none → refusal (full_test z (some v) r) ≡ some PlacesFull
   unfolding full_test
-  full_refused h f = refusal_here places_full [] (and_yes h (le-leb z.size.places (used (table z)) (omega (arith, (full_used (table z)).0 f, all_places))))
+  full_refused h f = refusal_here PlacesFull [] (and_yes h (le-leb z.size.places (used (table z)) (omega (arith, (full_used (table z)).0 f, all_places))))
 
   pub free_passes : (i : ℕ) → free_entry z.node ≡ some i → refusal (full_test z (some v) r) ≡ none
   unfolding full_test
-  free_passes i f = refusal_next places_full [] (go (leb z.size.places (used (table z))) refl) ∙ refusal_none
+  free_passes i f = refusal_next PlacesFull [] (go (leb z.size.places (used (table z))) refl) ∙ refusal_none
     where
       most : used (table z) ≤ z.size.rows + length z.node
       most = used_most (table z)

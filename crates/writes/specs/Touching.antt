@@ -6,7 +6,7 @@ use Rattle.measures.specs.Measures.{bytes_at}
 use Rattle.records.specs.Records.{Records, table}
 use Rattle.trees.specs.Trees.{used}
 use Rattle.trees.specs.Reading.{place}
-use Rattle.answers.specs.Answers.{places_full}
+use Rattle.answers.specs.declared.Refusal.TheVariants.{PlacesFull}
 use Rattle.answers.specs.Tests.{Tests}
 use Rattle.owning.specs.Owning.{Held, held}
 use Rattle.writes.specs.Unsharing.{shared_by}
@@ -26,4 +26,4 @@ module _ (z : Records) (places : List ℕ) (r : ℕ) (bs : List ℕ) where
 
 -- the last test of a write: the row is shared, every place is in use, and the bytes differ
 unfoldable pub room_test : Records → List ℕ → Option ℕ → ℕ → List ℕ → Tests
-room_test z places v r bs = (shared_by z v r && leb z.size.places (used (table z)) && not (untouched_by z places r bs v), places_full) ∷ []
+room_test z places v r bs = (shared_by z v r && leb z.size.places (used (table z)) && not (untouched_by z places r bs v), PlacesFull) ∷ []

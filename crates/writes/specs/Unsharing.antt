@@ -3,7 +3,7 @@ use Rattle.std.specs.Prelude.{Bool, false, ◌&&◌, cond, List, [], ◌∷◌, 
 use Rattle.std.proofs.Math.Option.{Option, none, some}
 use Rattle.records.specs.Records.{Records, table}
 use Rattle.trees.specs.Trees.{used}
-use Rattle.answers.specs.Answers.{places_full}
+use Rattle.answers.specs.declared.Refusal.TheVariants.{PlacesFull}
 use Rattle.answers.specs.Tests.{Tests}
 use Rattle.nodes.specs.Nodes.{first_child}
 use Rattle.sharing.specs.Sharing.{shared_at}
@@ -16,7 +16,7 @@ shared_by z none r = false
 shared_by z (some v) r = shared_at z.tree (table z) v r
 
 unfoldable pub full_test : Records → Option ℕ → ℕ → Tests
-full_test z v r = (shared_by z v r && leb z.size.places (used (table z)), places_full) ∷ []
+full_test z v r = (shared_by z v r && leb z.size.places (used (table z)), PlacesFull) ∷ []
 
 module _ (z : Records) (places : List ℕ) (r : ℕ) (bs : List ℕ) where
   -- which free place is taken is free: it is the first

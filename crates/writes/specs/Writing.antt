@@ -3,7 +3,9 @@ use Rattle.std.specs.Prelude.{◌≡◌, not, List, ◌∷◌, ℕ, ◌*◌, eqb
 use Rattle.std.proofs.Math.Option.{Option, none, some}
 use Rattle.records.specs.Records.{Records, lives}
 use Rattle.trees.specs.Trees.{version}
-use Rattle.answers.specs.Answers.{Refusal, bad_length, bad_row, unknown_tag, unsound, number}
+use Rattle.answers.specs.declared.Refusal.{Refusal}
+use Rattle.answers.specs.declared.Refusal.TheVariants.{BadLength, BadRow, UnknownTag, Unsound}
+use Rattle.answers.specs.Answers.{number}
 use Rattle.answers.specs.Tests.{Tests, refusal}
 use Rattle.soundness.specs.Judged.{Judged, Leaves}
 use Rattle.owning.specs.Owning.{Held, held}
@@ -13,10 +15,10 @@ use Rattle.writes.specs.Touching.{saved_at, room_test}
 
 unfoldable pub write_tests : Records → List ℕ → ℕ → ℕ → List ℕ → Tests
 write_tests z places tag r bs =
-    (not (eqb (length places) (z.size.places * z.size.width)), bad_length)
-    ∷ (not (eqb (length bs) z.size.width), bad_length)
-    ∷ (leb z.size.rows r, bad_row)
-    ∷ (not (lives z tag), unknown_tag)
+    (not (eqb (length places) (z.size.places * z.size.width)), BadLength)
+    ∷ (not (eqb (length bs) z.size.width), BadLength)
+    ∷ (leb z.size.rows r, BadRow)
+    ∷ (not (lives z tag), UnknownTag)
     ∷ room_test z places (version z.tree tag) r bs
 
 unfoldable pub write_verdict : Records → List ℕ → ℕ → ℕ → List ℕ → Option Refusal
@@ -37,4 +39,4 @@ written z places tag r bs = written_by z places r bs (version z.tree tag)
 abbrev pub WriteEnds : Records → List ℕ → ℕ → ℕ → List ℕ → ℕ → Held → Type 0
 WriteEnds z places tag r bs answer got =
     Judged z (Leaves (write_verdict z places tag r bs) (held z.tree z.node z.row places) (written z places tag r bs) answer got)
-    ((answer ≡ number unsound) × (got ≡ held z.tree z.node z.row places))
+    ((answer ≡ number Unsound) × (got ≡ held z.tree z.node z.row places))

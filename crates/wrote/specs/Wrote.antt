@@ -11,7 +11,7 @@ use Rattle.records.specs.Records.{Records, records_of, table, place_by, tag_plac
 use Rattle.trees.specs.Trees.{version}
 use Rattle.trees.specs.Reading.{place}
 use Rattle.records.specs.Sound.{Sound}
-use Rattle.answers.specs.Answers.{Refusal}
+use Rattle.answers.specs.declared.Refusal.{Refusal}
 use Rattle.answers.specs.Tests.{unless}
 use Rattle.tree.specs.Nodes.{version_alive}
 use Rattle.reading.specs.Used.{place_low}

@@ -11,7 +11,7 @@ use Rattle.std.proofs.Math.ListN.{length}
 use borrow.Author.Tests.{eqb-true, leb-false, not-false}
 use Rattle.records.specs.Records.{Records, table, lives}
 use Rattle.trees.specs.Trees.{used, version}
-use Rattle.answers.specs.Answers.{bad_length, bad_row, unknown_tag, places_full}
+use Rattle.answers.specs.declared.Refusal.TheVariants.{BadLength, BadRow, UnknownTag, PlacesFull}
 use Rattle.answers.proofs.Laws.{refusal_passed}
 use Rattle.edits.proofs.Solve.{lives_node}
 use Rattle.sharing.specs.Sharing.{shared_at}
@@ -31,12 +31,12 @@ module _ (z : Records) (places : List ℕ) (tag r : ℕ) (bs : List ℕ) where
       → (v : ℕ) × (version z.tree tag ≡ some v) × ((untouched_at z places r bs v ≡ true) ⊎ (untouched_at z places r bs v ≡ false) × Allowed z tag r bs v)
   unfolding write_verdict write_tests room_test
   write_allowed e =
-      let (a, e₁) = refusal_passed (not (eqb (length places) (z.size.places * z.size.width))) bad_length _ e in
-      let (b, e₂) = refusal_passed (not (eqb (length bs) z.size.width)) bad_length _ e₁ in
-      let (c, e₃) = refusal_passed (leb z.size.rows r) bad_row _ e₂ in
-      let (d, e₄) = refusal_passed (not (lives z tag)) unknown_tag _ e₃ in
+      let (a, e₁) = refusal_passed (not (eqb (length places) (z.size.places * z.size.width))) BadLength _ e in
+      let (b, e₂) = refusal_passed (not (eqb (length bs) z.size.width)) BadLength _ e₁ in
+      let (c, e₃) = refusal_passed (leb z.size.rows r) BadRow _ e₂ in
+      let (d, e₄) = refusal_passed (not (lives z tag)) UnknownTag _ e₃ in
       let (v, h, x, g) = lives_node z tag (not-false _ d) in
-      let (f, e₅) = refusal_passed (shared_at z.tree (table z) v r && leb z.size.places (used (table z)) && not (untouched_at z places r bs v)) places_full [] (rw h at e₄) in
+      let (f, e₅) = refusal_passed (shared_at z.tree (table z) v r && leb z.size.places (used (table z)) && not (untouched_at z places r bs v)) PlacesFull [] (rw h at e₄) in
       (v, h, either v (untouched_at z places r bs v) refl f h (eqb-true _ _ (not-false _ b)) (leb-false _ _ c))
     where
       either : (v : ℕ) (u : Bool) → untouched_at z places r bs v ≡ u → (shared_at z.tree (table z) v r && leb z.size.places (used (table z)) && not (untouched_at z places r bs v)) ≡ false

@@ -10,23 +10,23 @@ use Rattle.affecting.proofs.affected.Goals as goal
 pub loop-k-init : goal.loop-k-init
 loop-k-init c = let p = c.requires.2 in (climb_first _ _ p, passing_first _ _ _ (length-replicate {A = ℕ} 128 0), p.0)
 
-pub bounds-state-m : goal.bounds-state-m
-bounds-state-m c = let (k, q, z) = c.loop-k.invariant in
-    omega (arith, c.byte-m.ensures, (c.requires.1.parent _ z k.used).0)
+pub bounds-tree-m-in-loop-k : goal.bounds-tree-m-in-loop-k
+bounds-tree-m-in-loop-k c = let (k, q, z) = c.loop-k.invariant in
+    omega (arith, c.from-m.ensures, (c.requires.1.parent _ z k.used).0)
 
-pub returns-then-state-m-eq1 : goal.returns-then-state-m-eq1
-returns-then-state-m-eq1 c = let p = c.requires in
+pub returns-then-tree-m-eq1 : goal.returns-then-tree-m-eq1
+returns-then-tree-m-eq1 c = let p = c.requires in
     let (k, q, z) = c.loop-k.invariant in
     let h = climb_step _ _ _ _ (λ m b. p.1.parent m) c.loop-k-test.true z k in
-    passing_end _ _ _ _ (h.used.0, rw c.byte-m.ensures at c.if-state-m-eq1.true) (climb_other _ _ _ _ p.0 p.1 p.2 h) (passing_next _ _ _ _ k.used.0 q)
+    passing_end _ _ _ _ (h.used.0, rw c.from-m.ensures at c.if-tree-m-eq1.true) (climb_other _ _ _ _ p.0 p.1 p.2 h) (passing_next _ _ _ _ k.used.0 q)
 
 pub loop-k-preserved : goal.loop-k-preserved
 loop-k-preserved c = let p = c.requires in
     let (k, q, z) = c.loop-k.invariant in
-    rw c.byte-m.ensures (
+    rw c.from-m.ensures (
       climb_step _ _ _ _ (λ m b. p.1.parent m) c.loop-k-test.true z k,
       passing_next _ _ _ _ k.used.0 q,
-      λ x. c.if-state-m-eq1.false (rw (c.byte-m.ensures, x) p.0.root.0),
+      λ x. c.if-tree-m-eq1.false (rw (c.from-m.ensures, x) p.0.root.0),
     )
 
 pub returns : goal.returns

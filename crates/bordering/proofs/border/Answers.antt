@@ -15,11 +15,11 @@ use Rattle.basics.specs.Decide.{fails}
 use Rattle.bordering.proofs.border.Goals as goal
 
 pub returns-then-not-sound : goal.returns-then-not-sound
-returns-then-not-sound c = judged_unsound (fails c.sound.result c.sound.ensures c.if-not-sound.true) (record { numbered = refl; counted = refl; left = refl })
+returns-then-not-sound c = rw (c.refused.ensures.0, c.refused.ensures.1, c.refused.ensures.2) (judged_unsound (fails c.sound.result c.sound.ensures c.if-not-sound.true) (record { numbered = refl; counted = refl; left = refl }))
 
 pub returns-then-rows-gt64 : goal.returns-then-rows-gt64
 returns-then-rows-gt64 c = let judged : (let a = c.args in Sound (records_of a.size a.tree a.node.now a.row.now)) = holds c.sound.result c.sound.ensures c.if-not-sound.false in
-    judged_sound (judged) (let e = many_refused _ _ _ _ _ c.if-rows-gt64.true in record { numbered = e.numbered; counted = e.counted; left = e.left })
+    rw (c.refused-then-rows-gt64.ensures.0, c.refused-then-rows-gt64.ensures.1, c.refused-then-rows-gt64.ensures.2) (judged_sound (judged) (let e = many_refused _ _ _ _ _ c.if-rows-gt64.true in record { numbered = e.numbered; counted = e.counted; left = e.left }))
 
 pub overflow_mul-size : goal.overflow_mul-size
 overflow_mul-size c = let judged : (let a = c.args in Sound (records_of a.size a.tree a.node.now a.row.now)) = holds c.sound.result c.sound.ensures c.if-not-sound.false in
@@ -29,7 +29,7 @@ overflow_mul-size c = let judged : (let a = c.args in Sound (records_of a.size a
 pub returns-then-places-size : goal.returns-then-places-size
 returns-then-places-size c = let judged : (let a = c.args in Sound (records_of a.size a.tree a.node.now a.row.now)) = holds c.sound.result c.sound.ensures c.if-not-sound.false in
     let few : length c.args.rows.now ≤ 64 = omega (arith, c.if-rows-gt64.false) in
-    judged_sound (judged) (places_refused _ _ _ _ _ (few) c.if-places-size.true)
+    rw (c.refused-then-places-size.ensures.0, c.refused-then-places-size.ensures.1, c.refused-then-places-size.ensures.2) (judged_sound (judged) (places_refused _ _ _ _ _ (few) c.if-places-size.true))
 
 pub overflow_mul-rows : goal.overflow_mul-rows
 overflow_mul-rows c = let judged : (let a = c.args in Sound (records_of a.size a.tree a.node.now a.row.now)) = holds c.sound.result c.sound.ensures c.if-not-sound.false in
@@ -41,15 +41,15 @@ pub returns-then-bytes-rows : goal.returns-then-bytes-rows
 returns-then-bytes-rows c = let judged : (let a = c.args in Sound (records_of a.size a.tree a.node.now a.row.now)) = holds c.sound.result c.sound.ensures c.if-not-sound.false in
     let few : length c.args.rows.now ≤ 64 = omega (arith, c.if-rows-gt64.false) in
     let sized : (let a = c.args in length a.places.now ≡ a.size.places * a.size.width) = c.if-places-size.false in
-    judged_sound (judged) (bytes_refused _ _ _ _ _ (few) (sized) c.if-bytes-rows.true)
+    rw (c.refused-then-bytes-rows.ensures.0, c.refused-then-bytes-rows.ensures.1, c.refused-then-bytes-rows.ensures.2) (judged_sound (judged) (bytes_refused _ _ _ _ _ (few) (sized) c.if-bytes-rows.true))
 
 pub returns-in_default : goal.returns-in_default
 returns-in_default c = let judged : (let a = c.args in Sound (records_of a.size a.tree a.node.now a.row.now)) = holds c.sound.result c.sound.ensures c.if-not-sound.false in
     let few : length c.args.rows.now ≤ 64 = omega (arith, c.if-rows-gt64.false) in
     let sized : (let a = c.args in length a.places.now ≡ a.size.places * a.size.width) = c.if-places-size.false in
     let a = c.args in
-    judged_sound (judged)
-    (tag_refused _ _ _ _ _ (few) (sized) c.if-bytes-rows.false (found_missing (version a.tree a.tag) (sym c.in_default.is ∙ c.version-found.ensures)))
+    rw (c.refused-in_default.ensures.0, c.refused-in_default.ensures.1, c.refused-in_default.ensures.2) (judged_sound (judged)
+    (tag_refused _ _ _ _ _ (few) (sized) c.if-bytes-rows.false (found_missing (version a.tree a.tag) (sym c.in_default.is ∙ c.version.ensures))))
 
 pub write_rows-requires : goal.write_rows-requires
 write_rows-requires c = let judged : (let a = c.args in Sound (records_of a.size a.tree a.node.now a.row.now)) = holds c.sound.result c.sound.ensures c.if-not-sound.false in
@@ -63,4 +63,4 @@ returns c = let judged : (let a = c.args in Sound (records_of a.size a.tree a.no
     let sized : (let a = c.args in length a.places.now ≡ a.size.places * a.size.width) = c.if-places-size.false in
     let a = c.args in
     judged_sound (judged)
-    (tag_passed _ _ _ _ _ (few) (sized) c.if-bytes-rows.false _ (found_at (version a.tree a.tag) _ (sym c.in-At.is ∙ c.version-found.ensures)) c.write_rows.ensures)
+    (tag_passed _ _ _ _ _ (few) (sized) c.if-bytes-rows.false _ (found_at (version a.tree a.tag) _ (sym c.in-Some.is ∙ c.version.ensures)) c.write_rows.ensures)

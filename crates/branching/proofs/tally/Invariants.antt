@@ -2,12 +2,8 @@
 use Prim.Native.Nat.{◌≤◌, ◌-◌}
 use mathlib.Core.Path.{◌≡◌}
 use lib.ListN.{length}
-use Rattle.trees.specs.Trees.{tree_of}
 use Rattle.branching.specs.Children.{Counted}
 use Rattle.branching.proofs.tally.Given as goal
 
-abbrev pub invariant-loop-j : goal.invariant-loop-j
-invariant-loop-j l = (l.j ≤ length l.used) × (length l.kids ≡ 128) × Counted (tree_of l.state l.tag l.parent) l.used l.kids l.j
-
-abbrev pub decreases-loop-j : goal.decreases-loop-j
-decreases-loop-j l = length l.used - l.j
+abbrev pub invariant-loop-n : goal.invariant-loop-n
+invariant-loop-n l = (length l.kids ≡ 128) × Counted l.nodes.tree.now l.nodes.used.now l.kids l.n-index

@@ -2,12 +2,9 @@
 use Prim.Native.Nat.{◌≤◌, ◌-◌}
 use lib.ListN.{length}
 use Rattle.faults.specs.Faults.{Below}
-use Rattle.trees.specs.Trees.{tree_of, table_of}
+use Rattle.trees.specs.Trees.{entries_of}
 use Rattle.table.specs.Rules.{ReadAt}
 use Rattle.clearing.proofs.rest_read.Given as goal
 
 abbrev pub invariant-loop-i : goal.invariant-loop-i
-invariant-loop-i l = (l.i ≤ length l.node) × Below (ReadAt (tree_of l.state l.tag l.parent) (table_of l.rows l.node l.row)) l.i
-
-abbrev pub decreases-loop-i : goal.decreases-loop-i
-decreases-loop-i l = length l.node - l.i
+invariant-loop-i l = Below (ReadAt l.tree (entries_of l.table)) l.i

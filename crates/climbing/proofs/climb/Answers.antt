@@ -10,22 +10,12 @@ loop-k-init c = rise_start _ _ _ _ c.requires.used
 pub returns-then-m-eq0 : goal.returns-then-m-eq0
 returns-then-m-eq0 c = rise_root _ _ _ _ c.loop-k.invariant c.if-m-eq0.true c.home.ensures
 
-pub offset_bounds-notes-m : goal.offset_bounds-notes-m
-offset_bounds-notes-m c = let node_above : c.byte-above.result < 128 = let v = c.loop-k.invariant in
-    omega (arith, (c.requires.parents _ v.used.0 c.if-m-eq0.false v.used).0, c.byte-above.ensures) in
-    omega (arith, node_above)
-
-pub bounds-notes-m : goal.bounds-notes-m
-bounds-notes-m c = let node_above : c.byte-above.result < 128 = let v = c.loop-k.invariant in
-    omega (arith, (c.requires.parents _ v.used.0 c.if-m-eq0.false v.used).0, c.byte-above.ensures) in
-    omega (arith, node_above)
-
 pub returns-then-note-ne0 : goal.returns-then-note-ne0
 returns-then-note-ne0 c = rise_own _ _ _ _ c.loop-k-test.true c.loop-k.invariant c.if-m-eq0.false c.if-note-ne0.true c.told.ensures
 
 pub loop-k-preserved : goal.loop-k-preserved
 loop-k-preserved c = let v = c.loop-k.invariant in
-    rw c.byte-above.ensures (rise_up _ _ _ _ c.loop-k-test.true v c.if-m-eq0.false c.if-note-ne0.false (c.requires.parents _ v.used.0 c.if-m-eq0.false v.used))
+    rw c.from-above.ensures (rise_up _ _ _ _ c.loop-k-test.true v c.if-m-eq0.false c.if-note-ne0.false (c.requires.parents _ v.used.0 c.if-m-eq0.false v.used))
 
 pub returns : goal.returns
 returns c = rise_over _ _ _ _ c.loop-k-test.false c.loop-k.invariant c.home-2.ensures

@@ -1,11 +1,7 @@
 -- `climbing::climb` meets its contract: what the node reads is what the node above it reads. Assumes nothing.
 use Prim.Native.Nat.{◌-◌}
-use Rattle.trees.specs.Trees.{tree_of}
 use Rattle.notes.proofs.Rising.{Rising}
 use Rattle.climbing.proofs.climb.Given as goal
 
 abbrev pub invariant-loop-k : goal.invariant-loop-k
-invariant-loop-k l = Rising (tree_of l.state l.tag l.parent) l.notes l.n l.r.0 l.m l.k
-
-abbrev pub decreases-loop-k : goal.decreases-loop-k
-decreases-loop-k l = 128 - l.k
+invariant-loop-k l = Rising l.tree l.notes l.n l.r.0 l.m l.k

@@ -8,16 +8,6 @@ use Rattle.removal.proofs.FreedLists.{freed_only}
 use Rattle.records.specs.Records.{records_of, table}
 use Rattle.deleting.proofs.remove.Goals as goal
 
-pub slice_bounds-free_alone-end : goal.slice_bounds-free_alone-end
-slice_bounds-free_alone-end c = let e = c.list-k.ensures in sym (length-take-le _ _ (omega (arith, e.0, e.2)))
-
-pub free_alone-requires : goal.free_alone-requires
-free_alone-requires c = let p = c.requires in
-    (p.0.sound.states, p.0.snapshot, c.list-k.ensures.1, (freeable p.0 p.1).1)
-
-pub pruned-stand-requires : goal.pruned-stand-requires
-pruned-stand-requires c = c.requires.0.snapshot.1.0
-
 pub settled-requires : goal.settled-requires
 settled-requires c = rw (c.pruned-stand.ensures.1, c.ghosted-gone.ensures) (thin_low c.requires.0)
 

@@ -2,12 +2,9 @@
 use Prim.Native.Nat.{ℕ, ◌≤◌, ◌<◌, ◌-◌}
 use mathlib.Core.Path.{◌≡◌}
 use lib.ListN.{length}
-use Rattle.trees.specs.Trees.{tree_of, table_of}
+use Rattle.trees.specs.Trees.{entries_of}
 use Rattle.table.specs.Rules.{Marked, EntryFits}
 use Rattle.entering.proofs.entries.Given as goal
 
 abbrev pub invariant-loop-i : goal.invariant-loop-i
-invariant-loop-i l = (l.i ≤ length l.node) × (length l.marks ≡ length l.initial.marks) × Marked (table_of l.rows l.node l.row) l.marks l.i × ((k : ℕ) → k < l.i → EntryFits (tree_of l.state l.tag l.parent) (table_of l.rows l.node l.row) k)
-
-abbrev pub decreases-loop-i : goal.decreases-loop-i
-decreases-loop-i l = length l.node - l.i
+invariant-loop-i l = (l.i ≤ length l.table.node.now) × (length l.marks ≡ length l.initial.marks) × Marked (entries_of l.table) l.marks l.i × ((k : ℕ) → k < l.i → EntryFits l.tree (entries_of l.table) k)

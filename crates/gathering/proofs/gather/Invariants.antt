@@ -1,10 +1,6 @@
 -- `gathering::gather` meets its contract: byte after byte is that of the row in cable order. Assumes nothing.
-use Prim.Native.Nat.{◌-◌}
 use Rattle.gathering.specs.Gathering.{Gathering}
 use Rattle.gathering.proofs.gather.Given as goal
 
 abbrev pub invariant-loop-j : goal.invariant-loop-j
 invariant-loop-j l = Gathering l.row l.out l.j
-
-abbrev pub decreases-loop-j : goal.decreases-loop-j
-decreases-loop-j l = 128 - l.j

@@ -1,10 +1,6 @@
 -- `gathering::gathered` meets its contract: bit after bit is that of the position's hook. Assumes nothing.
-use Prim.Native.Nat.{◌-◌}
 use Rattle.gathering.specs.Gathering.{Gathered}
 use Rattle.gathering.proofs.gathered.Given as goal
 
 abbrev pub invariant-loop-k : goal.invariant-loop-k
 invariant-loop-k l = Gathered l.row l.j l.byte l.k
-
-abbrev pub decreases-loop-k : goal.decreases-loop-k
-decreases-loop-k l = 8 - l.k

@@ -1,9 +1,6 @@
--- `guessing::past` meets its contract. Assumes nothing.
-use Prim.Native.Nat.{◌≤◌, ◌<◌, ◌-◌}
+-- `guessing::past` meets its contract: going up stays among nodes. Assumes nothing.
+use Rattle.std.specs.Prelude.{◌<◌}
 use Rattle.guessing.proofs.past.Given as goal
 
-abbrev pub invariant-loop-k : goal.invariant-loop-k
-invariant-loop-k l = (l.k ≤ 128) × (l.m < 128)
-
-abbrev pub decreases-loop-k : goal.decreases-loop-k
-decreases-loop-k l = 128 - l.k
+abbrev pub invariant-loop : goal.invariant-loop
+invariant-loop l = l.m < 128

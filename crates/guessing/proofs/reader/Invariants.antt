@@ -1,9 +1,6 @@
--- `guessing::reader` meets its contract. Assumes nothing.
-use Prim.Native.Nat.{◌≤◌, ◌<◌, ◌-◌}
+-- `guessing::reader` meets its contract: it stays among nodes. Assumes nothing.
+use Rattle.std.specs.Prelude.{◌<◌}
 use Rattle.guessing.proofs.reader.Given as goal
 
-abbrev pub invariant-loop-k : goal.invariant-loop-k
-invariant-loop-k l = (l.k ≤ 128) × (l.n < 128)
-
-abbrev pub decreases-loop-k : goal.decreases-loop-k
-decreases-loop-k l = 128 - l.k
+abbrev pub invariant-loop : goal.invariant-loop
+invariant-loop l = l.n < 128

@@ -8,5 +8,5 @@ pub bounds-order-n : goal.bounds-order-n
 bounds-order-n c = omega (arith, c.requires.0.size)
 
 pub returns : goal.returns
-returns c = let e = c.pair.ensures ∙ c.requires.0.rule c.args.n c.requires.1 in
+returns c = let e = c.from.ensures ∙ c.requires.0.rule c.args.n c.requires.1 in
     (e, omega (arith, e, hook_below c.args.n c.requires.1))

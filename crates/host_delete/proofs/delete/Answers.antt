@@ -1,30 +1,8 @@
 -- `host_delete::delete` meets its contract: each of the buffers is long enough where it is used. Assumes nothing.
 use mathlib.Core.Path.{refl}
-use Rattle.host.specs.Laws.{host_unfit, ready, front}
-use Rattle.basics.specs.Decide.{holds}
+use Rattle.host.specs.Laws.{host_unfit}
 use Rattle.basics.specs.Decide.{fails}
 use Rattle.host_delete.proofs.delete.Goals as goal
 
 pub returns-then-not-fits : goal.returns-then-not-fits
 returns-then-not-fits c = host_unfit (fails c.fits.result c.fits.ensures c.if-not-fits.true) (refl, refl)
-
-pub entries-n-requires : goal.entries-n-requires
-entries-n-requires c = holds c.fits.result c.fits.ensures c.if-not-fits.false
-
-pub slice_bounds-delete_in-end : goal.slice_bounds-delete_in-end
-slice_bounds-delete_in-end c = front _ c.if-n-le64.true
-
-pub delete_in-requires : goal.delete_in-requires
-delete_in-requires c = ready _ (holds c.fits.result c.fits.ensures c.if-not-fits.false) c.entries-n.ensures.0 c.if-n-le64.true
-
-pub slice_bounds-delete_in-end-then-n-le512 : goal.slice_bounds-delete_in-end-then-n-le512
-slice_bounds-delete_in-end-then-n-le512 c = front _ c.if-n-le512.true
-
-pub delete_in-requires-then-n-le512 : goal.delete_in-requires-then-n-le512
-delete_in-requires-then-n-le512 c = ready _ (holds c.fits.result c.fits.ensures c.if-not-fits.false) c.entries-n.ensures.0 c.if-n-le512.true
-
-pub slice_bounds-delete_in-end-2 : goal.slice_bounds-delete_in-end-2
-slice_bounds-delete_in-end-2 c = front _ c.entries-n.ensures.1
-
-pub delete_in-requires-2 : goal.delete_in-requires-2
-delete_in-requires-2 c = ready _ (holds c.fits.result c.fits.ensures c.if-not-fits.false) c.entries-n.ensures.0 c.entries-n.ensures.1

@@ -1,19 +1,22 @@
 -- `host_read::copy_row` meets its contract. Assumes nothing.
-use mathlib.Core.Path.{sym, ◌∙◌}
+use mathlib.Core.Path.{refl, sym, ◌∙◌}
+use native.Mathlib.Omega.{arith}
+use Rattle.std.specs.Prelude.{◌≢◌}
+use Rattle.answers.specs.Results.{answer_of}
+use Rattle.answers.proofs.Laws.{number_some}
 use Rattle.host_read.specs.Laws.{copied_unsound, copied_length, copied_refused, copied_done}
 use Rattle.host_read.proofs.copy_row.Goals as goal
 
-pub returns-then-number-eq20 : goal.returns-then-number-eq20
-returns-then-number-eq20 c = copied_unsound c.if-number-eq20.true
+pub returns-then-answer_of-number : goal.returns-then-answer_of-number
+returns-then-answer_of-number c = copied_unsound (sym c.answer_of.ensures ∙ c.if-answer_of-number.true ∙ c.number.ensures)
 
 pub returns-then-out-size : goal.returns-then-out-size
-returns-then-out-size c = copied_length c.if-number-eq20.false c.if-out-size.true
+returns-then-out-size c = copied_length (λ e. c.if-answer_of-number.false (c.answer_of.ensures ∙ e ∙ sym c.number.ensures)) c.if-out-size.true
 
-pub returns-then-number-ne0 : goal.returns-then-number-ne0
-returns-then-number-ne0 c = copied_refused c.if-number-eq20.false c.if-out-size.false c.if-number-ne0.true
+pub returns-in-Ok : goal.returns-in-Ok
+returns-in-Ok c = rw c.in-Ok.is (copied_done (λ e. omega (arith, e)) c.if-out-size.false refl c.fill.ensures)
 
-pub fill-requires : goal.fill-requires
-fill-requires c = c.if-out-size.false ∙ sym (c.requires c.if-number-ne0.false)
-
-pub returns : goal.returns
-returns c = copied_done c.if-number-eq20.false c.if-out-size.false c.if-number-ne0.false c.fill.ensures
+pub returns-in-Err : goal.returns-in-Err
+returns-in-Err c = let other : answer_of c.args.read ≢ 20 = λ e. c.if-answer_of-number.false (c.answer_of.ensures ∙ e ∙ sym c.number.ensures) in
+    let known = rw c.in-Err.is at other in
+    rw c.in-Err.is (copied_refused known c.if-out-size.false (number_some _))

@@ -6,6 +6,3 @@ use Rattle.kinds.proofs.hung.Given as goal
 
 abbrev pub invariant-loop-n : goal.invariant-loop-n
 invariant-loop-n l = (l.n ≤ 128) × Faults (Hung l.state l.parent) l.n l.wrong
-
-abbrev pub decreases-loop-n : goal.decreases-loop-n
-decreases-loop-n l = 128 - l.n

@@ -6,6 +6,3 @@ use Rattle.kinds.proofs.named.Given as goal
 
 abbrev pub invariant-loop-n : goal.invariant-loop-n
 invariant-loop-n l = (l.n ≤ 128) × Faults (Named l.state l.tag) l.n l.wrong
-
-abbrev pub decreases-loop-n : goal.decreases-loop-n
-decreases-loop-n l = 128 - l.n

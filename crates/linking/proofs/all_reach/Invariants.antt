@@ -3,12 +3,9 @@ use Prim.Native.Nat.{◌≤◌, ◌-◌}
 use lib.ListN.{length}
 use Rattle.basics.specs.Decide.{at}
 use Rattle.faults.specs.Faults.{Below}
-use Rattle.trees.specs.Trees.{tree_of, up, Reaches}
+use Rattle.trees.specs.Trees.{up, Reaches}
 use Rattle.linking.specs.Known.{Known}
 use Rattle.linking.proofs.all_reach.Given as goal
 
-abbrev pub invariant-loop-j : goal.invariant-loop-j
-invariant-loop-j l = let t = tree_of l.state l.tag l.parent in (l.j ≤ length l.used) × Below (λ i. Reaches (up t) (at l.used i)) l.j × Known t l.known
-
-abbrev pub decreases-loop-j : goal.decreases-loop-j
-decreases-loop-j l = length l.used - l.j
+abbrev pub invariant-loop-n : goal.invariant-loop-n
+invariant-loop-n l = let t = l.nodes.tree.now in Below (λ i. Reaches (up t) (at l.nodes.used.now i)) l.n-index × Known t l.known

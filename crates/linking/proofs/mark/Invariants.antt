@@ -3,12 +3,9 @@ use Prim.Native.Nat.{◌≤◌, ◌-◌}
 use mathlib.Core.Path.{◌≡◌}
 use mathlib.Core.Logic.{◌≢◌, ◌⊎◌}
 use Rattle.basics.specs.Decide.{at}
-use Rattle.trees.specs.Trees.{tree_of, InUse, up, Reaches}
+use Rattle.trees.specs.Trees.{InUse, up, Reaches}
 use Rattle.linking.specs.Known.{Known}
 use Rattle.linking.proofs.mark.Given as goal
 
 abbrev pub invariant-loop-steps : goal.invariant-loop-steps
-invariant-loop-steps l = let t = tree_of l.state l.tag l.parent in (l.steps ≤ 128) × InUse t l.m × Reaches (up t) l.m × Known t l.known × (((l.steps ≡ 0) × (l.n ≡ l.m)) ⊎ (at l.known l.n ≢ 0))
-
-abbrev pub decreases-loop-steps : goal.decreases-loop-steps
-decreases-loop-steps l = 128 - l.steps
+invariant-loop-steps l = let t = l.tree in (l.steps ≤ 128) × InUse t l.m × Reaches (up t) l.m × Known t l.known × (((l.steps ≡ 0) × (l.n ≡ l.m)) ⊎ (at l.known l.n ≢ 0))

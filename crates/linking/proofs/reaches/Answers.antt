@@ -13,7 +13,7 @@ returns-then-known-node-ne0 c = climb_reaches _ _ _ _ c.loop-k.invariant (c.requ
 
 pub loop-k-preserved : goal.loop-k-preserved
 loop-k-preserved c = let p = c.requires in
-    rw c.byte-node.ensures (climb_step _ _ _ _ p.0.parents c.loop-k-test.true (λ e. p.1.root (rw e at c.if-known-node-ne0.false)) c.loop-k.invariant)
+    rw c.from-node.ensures (climb_step _ _ _ _ p.0.parents c.loop-k-test.true (λ e. p.1.root (rw e at c.if-known-node-ne0.false)) c.loop-k.invariant)
 
 pub returns : goal.returns
 returns c = let e : c.loop-k.k ≡ 128 = omega arith in climb_over _ _ _ c.requires.0 (rw e at c.loop-k.invariant)

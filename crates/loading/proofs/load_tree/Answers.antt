@@ -3,4 +3,4 @@ use Rattle.layout.specs.Laws.{tree_same}
 use Rattle.loading.proofs.load_tree.Goals as goal
 
 pub returns : goal.returns
-returns c = tree_same c.fill_nodes.ensures c.fill_nodes-2.ensures c.fill_tags.ensures
+returns c = tree_same c.copy_from_slice.ensures.after c.copy_from_slice-2.ensures.after c.load_few.ensures

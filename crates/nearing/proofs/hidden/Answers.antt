@@ -7,8 +7,4 @@ use Rattle.nearing.specs.Near.{hidden_first}
 use Rattle.nearing.proofs.hidden.Goals as goal
 
 pub loop-g-init : goal.loop-g-init
-loop-g-init c = (omega arith, hidden_first _ _ (length-replicate {A = ℕ} 128 0) (λ k l. get_or-replicate {A = ℕ} 128 k 0 0 l))
-
-pub returns : goal.returns
-returns c = let e : c.loop-g.g ≡ 128 = omega (arith, c.loop-g.invariant.0, c.loop-g-test.false) in
-    rw e at c.loop-g.invariant.1
+loop-g-init c = hidden_first _ _ (length-replicate {A = ℕ} 128 0) (λ k l. get_or-replicate {A = ℕ} 128 k 0 0 l)

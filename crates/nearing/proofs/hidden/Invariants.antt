@@ -4,7 +4,4 @@ use Rattle.nearing.specs.Near.{Hidden}
 use Rattle.nearing.proofs.hidden.Given as goal
 
 abbrev pub invariant-loop-g : goal.invariant-loop-g
-invariant-loop-g l = (l.g ≤ 128) × Hidden l.state l.near l.g
-
-abbrev pub decreases-loop-g : goal.decreases-loop-g
-decreases-loop-g l = 128 - l.g
+invariant-loop-g l = Hidden l.state l.near l.g

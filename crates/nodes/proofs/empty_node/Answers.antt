@@ -7,11 +7,11 @@ use Rattle.nodes.proofs.empty_node.Goals as goal
 pub loop-n-init : goal.loop-n-init
 loop-n-init c = passing_start _
 
-pub returns-then-state-n-eq0 : goal.returns-then-state-n-eq0
-returns-then-state-n-eq0 c = passing_stop _ _ c.loop-n-test.true c.loop-n.invariant c.if-state-n-eq0.true
+pub returns-then-tree-n-eq0 : goal.returns-then-tree-n-eq0
+returns-then-tree-n-eq0 c = passing_stop _ _ c.loop-n-test.true c.loop-n.invariant c.if-tree-n-eq0.true
 
 pub loop-n-preserved : goal.loop-n-preserved
-loop-n-preserved c = passing_next _ _ c.loop-n-test.true c.loop-n.invariant c.if-state-n-eq0.false
+loop-n-preserved c = passing_next _ _ c.loop-n-test.true c.loop-n.invariant c.if-tree-n-eq0.false
 
 pub returns : goal.returns
 returns c = let e : c.loop-n.n ≡ 128 = omega (arith, c.loop-n.invariant.most) in

@@ -1,11 +1,10 @@
 -- `nodes::empty_node` meets its contract: the nodes passed are in use, so one is left. Assumes nothing.
 use Prim.Native.Nat.{◌-◌}
 use Rattle.nodes.specs.Nodes.{Passing}
-use Rattle.trees.specs.Trees.{tree_of}
 use Rattle.nodes.proofs.empty_node.Given as goal
 
 abbrev pub invariant-loop-n : goal.invariant-loop-n
-invariant-loop-n l = Passing (tree_of l.state l.tag l.parent) l.n
+invariant-loop-n l = Passing l.tree l.n
 
 abbrev pub decreases-loop-n : goal.decreases-loop-n
 decreases-loop-n l = 128 - l.n

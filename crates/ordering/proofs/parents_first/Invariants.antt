@@ -5,7 +5,4 @@ use Rattle.ordering.specs.Ordered.{Noting}
 use Rattle.ordering.proofs.parents_first.Given as goal
 
 abbrev pub invariant-loop-j : goal.invariant-loop-j
-invariant-loop-j l = (l.j ≤ length l.order) × Noting l.parent l.order l.end l.seen l.j
-
-abbrev pub decreases-loop-j : goal.decreases-loop-j
-decreases-loop-j l = length l.order - l.j
+invariant-loop-j l = Noting l.parent l.order l.end l.seen l.j

@@ -3,4 +3,4 @@ use Rattle.placing.specs.Laws.{put_stretch}
 use Rattle.placing.proofs.put.Goals as goal
 
 pub returns : goal.returns
-returns c = put_stretch _ _ _ _ _ _ c.offset-from.ensures c.fill.ensures
+returns c = put_stretch _ _ _ _ _ _ c.offset-from.ensures c.copy_from_slice.ensures.after

@@ -3,4 +3,4 @@ use Rattle.progress.specs.Laws.{stopped_at}
 use Rattle.progress.proofs.stop.Goals as goal
 
 pub returns : goal.returns
-returns c = stopped_at c.over.ensures c.byte.ensures c.plain_line-end.ensures
+returns c = stopped_at c.over.ensures c.from.ensures c.plain_line-end.ensures

@@ -5,8 +5,5 @@ use Rattle.pruning.specs.Laws.{label}
 use Rattle.removal.proofs.Lists.{Mapping}
 use Rattle.pruning.proofs.relabel.Given as goal
 
-abbrev pub invariant-loop-i : goal.invariant-loop-i
-invariant-loop-i l = Mapping (label l.x l.w) l.initial.node l.node l.i
-
-abbrev pub decreases-loop-i : goal.decreases-loop-i
-decreases-loop-i l = length l.initial.node - l.i
+abbrev pub invariant-loop-n : goal.invariant-loop-n
+invariant-loop-n l = Mapping (label l.x l.w) l.initial.node l.node l.n-index

@@ -18,22 +18,22 @@ returns-then-children-ne1 c = let a = c.args in
 
 pub returns-in_default : goal.returns-in_default
 returns-in_default c = let a = c.args in
-    let h = no_child a.tree a.x a.node.now (found_missing (first_child a.tree a.x) (sym c.in_default.is ∙ c.child-found.ensures)) in
+    let h = no_child a.tree a.x a.node.now (found_missing (first_child a.tree a.x) (sym c.in_default.is ∙ c.child.ensures)) in
     (sym h.0, sym h.1)
 
 pub relabel-requires : goal.relabel-requires
-relabel-requires c = let known : (let a = c.args in first_child a.tree a.x ≡ some c.in-At.w) = let a = c.args in
-    found_at (first_child a.tree a.x) _ (sym c.in-At.is ∙ c.child-found.ensures) in
+relabel-requires c = let known : (let a = c.args in first_child a.tree a.x ≡ some c.in-Some.w) = let a = c.args in
+    found_at (first_child a.tree a.x) _ (sym c.in-Some.is ∙ c.child.ensures) in
     (child_some _ _ _ (known)).1.0
 
 pub spliced-requires : goal.spliced-requires
-spliced-requires c = let known : (let a = c.args in first_child a.tree a.x ≡ some c.in-At.w) = let a = c.args in
-    found_at (first_child a.tree a.x) _ (sym c.in-At.is ∙ c.child-found.ensures) in
+spliced-requires c = let known : (let a = c.args in first_child a.tree a.x ≡ some c.in-Some.w) = let a = c.args in
+    found_at (first_child a.tree a.x) _ (sym c.in-Some.is ∙ c.child.ensures) in
     (c.requires, (child_some _ _ _ (known)).1.0)
 
 pub returns : goal.returns
-returns c = let known : (let a = c.args in first_child a.tree a.x ≡ some c.in-At.w) = let a = c.args in
-    found_at (first_child a.tree a.x) _ (sym c.in-At.is ∙ c.child-found.ensures) in
+returns c = let known : (let a = c.args in first_child a.tree a.x ≡ some c.in-Some.w) = let a = c.args in
+    found_at (first_child a.tree a.x) _ (sym c.in-Some.is ∙ c.child.ensures) in
     let a = c.args in
     let h = one_child a.tree a.x a.node.now c.if-tree-x-ne2.false (sym c.children.ensures ∙ c.if-children-ne1.false) _ (known) in
     (c.spliced.ensures ∙ sym h.0, c.relabel.ensures ∙ sym h.1)

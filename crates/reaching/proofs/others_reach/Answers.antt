@@ -23,59 +23,30 @@ returns-then-another c = let p = c.requires in
 
 pub loop-j-init : goal.loop-j-init
 loop-j-init c = let p = c.requires in
-    rw c.byte-far.ensures (reaching_first _ _ _ _ _ _ _ p.0.below p.2 (λ l x. fails c.another.result c.another.ensures c.if-another.false (l.1, x)))
+    rw c.from-far.ensures (reaching_first _ _ _ _ _ _ _ p.0.below p.2 (λ l x. fails c.another.result c.another.ensures c.if-another.false (l.1, x)))
 
 pub returns-then-far-j : goal.returns-then-far-j
 returns-then-far-j c = λ h.
     let p = c.requires in
     reaching_none _ _ _ _ _ _ _ p.0.below p.0.linked p.1 _ _ _ c.loop-j.invariant (inl c.if-far-j.true) h
 
-pub bounds-parent-c : goal.bounds-parent-c
-bounds-parent-c c = let node_low : c.byte-c.result < 128 = omega (arith, c.byte-c.ensures, (c.requires.1.each c.loop-j.j c.loop-j-test.true).1) in
-    node_low
-
-pub bounds-reach-p : goal.bounds-reach-p
-bounds-reach-p c = let parent_is : (c.byte-p.result ≡ at c.args.parent.now (at c.args.order.now c.loop-j.j)) = c.byte-p.ensures ∙ ap (at c.args.parent.now) c.byte-c.ensures in
-    omega (arith, parent_is, parent_low _ _ _ c.requires.1 c.loop-j.j c.loop-j-test.true)
-
-pub meets_too-requires : goal.meets_too-requires
-meets_too-requires c = let node_low : c.byte-c.result < 128 = omega (arith, c.byte-c.ensures, (c.requires.1.each c.loop-j.j c.loop-j-test.true).1) in
-    (c.requires.0.row, node_low)
-
-pub bounds-state-c : goal.bounds-state-c
-bounds-state-c c = let node_low : c.byte-c.result < 128 = omega (arith, c.byte-c.ensures, (c.requires.1.each c.loop-j.j c.loop-j-test.true).1) in
-    node_low
-
 pub returns-then-another-2 : goal.returns-then-another-2
-returns-then-another-2 c = let node_low : c.byte-c.result < 128 = omega (arith, c.byte-c.ensures, (c.requires.1.each c.loop-j.j c.loop-j-test.true).1) in
-    let parent_is : (c.byte-p.result ≡ at c.args.parent.now (at c.args.order.now c.loop-j.j)) = c.byte-p.ensures ∙ ap (at c.args.parent.now) c.byte-c.ensures in
-    let met : (let a = c.args in Decides c.meets_too.result ((at c.loop-j.reach (at a.parent.now (at a.order.now c.loop-j.j)) ≡ 1) × (has a.marks.now (slot (at a.order.now c.loop-j.j) a.r.0) ≡ false))) = rw (parent_is, c.byte-c.ensures) at c.meets_too.ensures in
+returns-then-another-2 c = let node_low : c.from-c.result < 128 = omega (arith, c.from-c.ensures, (c.requires.1.each c.loop-j.j c.loop-j-test.true).1) in
+    let parent_is : (c.from-p.result ≡ at c.args.tree.now.parent (at c.args.order.now c.loop-j.j)) = c.from-p.ensures ∙ ap (at c.args.tree.now.parent) c.from-c.ensures in
+    let met : (let a = c.args in Decides c.meets_too.result ((at c.loop-j.reach (at a.tree.now.parent (at a.order.now c.loop-j.j)) ≡ 1) × (has a.marks.now (slot (at a.order.now c.loop-j.j) a.r.0) ≡ false))) = rw (parent_is, c.from-c.ensures) at c.meets_too.ensures in
     let h = holds c.another-then-meets_too.result c.another-then-meets_too.ensures c.if-another-2.true in
     let m = holds c.meets_too.result (met) c.if-meets_too.true in
-    (_, ((node_low, h.0), h.1, rw c.byte-c.ensures (reaching_met _ _ _ _ _ _ _ c.requires.0.below c.requires.1 _ _ _ c.loop-j-test.true c.loop-j.invariant m.0 m.1)))
-
-pub bounds-reach-c : goal.bounds-reach-c
-bounds-reach-c c = let node_low : c.byte-c.result < 128 = omega (arith, c.byte-c.ensures, (c.requires.1.each c.loop-j.j c.loop-j-test.true).1) in
-    node_low
-
-pub bounds-end-c : goal.bounds-end-c
-bounds-end-c c = let node_low : c.byte-c.result < 128 = omega (arith, c.byte-c.ensures, (c.requires.1.each c.loop-j.j c.loop-j-test.true).1) in
-    node_low
-
-pub returns : goal.returns
-returns c = λ h.
-    let p = c.requires in
-    reaching_none _ _ _ _ _ _ _ p.0.below p.0.linked p.1 _ _ _ c.loop-j.invariant (inr c.loop-j-test.false) h
+    (_, ((node_low, h.0), h.1, rw c.from-c.ensures (reaching_met _ _ _ _ _ _ _ c.requires.0.below c.requires.1 _ _ _ c.loop-j-test.true c.loop-j.invariant m.0 m.1)))
 
 pub loop-j-preserved : goal.loop-j-preserved
-loop-j-preserved c = let parent_is : (c.byte-p.result ≡ at c.args.parent.now (at c.args.order.now c.loop-j.j)) = c.byte-p.ensures ∙ ap (at c.args.parent.now) c.byte-c.ensures in
-    let met : (let a = c.args in Decides c.meets_too.result ((at c.loop-j.reach (at a.parent.now (at a.order.now c.loop-j.j)) ≡ 1) × (has a.marks.now (slot (at a.order.now c.loop-j.j) a.r.0) ≡ false))) = rw (parent_is, c.byte-c.ensures) at c.meets_too.ensures in
+loop-j-preserved c = let parent_is : (c.from-p.result ≡ at c.args.tree.now.parent (at c.args.order.now c.loop-j.j)) = c.from-p.ensures ∙ ap (at c.args.tree.now.parent) c.from-c.ensures in
+    let met : (let a = c.args in Decides c.meets_too.result ((at c.loop-j.reach (at a.tree.now.parent (at a.order.now c.loop-j.j)) ≡ 1) × (has a.marks.now (slot (at a.order.now c.loop-j.j) a.r.0) ≡ false))) = rw (parent_is, c.from-c.ensures) at c.meets_too.ensures in
     let p = c.requires in
     let v = c.loop-j.invariant in
     elim c.if-meets_too.branch [
       | then-meets_too+else-another-2 w ↦ let m = holds c.meets_too.result (met) w.if-meets_too.true in
-          rw (w.reach-is, w.far-is, c.byte-c.ensures) (reaching_next _ _ _ _ _ _ _ p.0.below p.1 _ _ _ c.loop-j-test.true v m.0 m.1
-          (λ a x. fails w.another-then-meets_too.result w.another-then-meets_too.ensures w.if-another-2.false (ap (at c.args.state.now) c.byte-c.ensures ∙ a.1, λ q. x (sym c.byte-c.ensures ∙ q)))
-          _ w.later-far.ensures.0 (rw (w.byte.ensures, c.byte-c.ensures) at w.later-far.ensures.1))
+          rw (w.reach-is, w.far-is, c.from-c.ensures) (reaching_next _ _ _ _ _ _ _ p.0.below p.1 _ _ _ c.loop-j-test.true v m.0 m.1
+          (λ a x. fails w.another-then-meets_too.result w.another-then-meets_too.ensures w.if-another-2.false (ap (at c.args.tree.now.state) c.from-c.ensures ∙ a.1, λ q. x (sym c.from-c.ensures ∙ q)))
+          _ (omega (arith, w.max-far.ensures)) (let e = w.from.ensures ∙ ap (at c.args.end.now) c.from-c.ensures in omega (arith, e, w.max-far.ensures)))
       | else-meets_too w ↦ rw (w.reach-is, w.far-is) (reaching_past _ _ _ _ _ _ _ p.0.below p.1 _ _ _ c.loop-j-test.true v (fails c.meets_too.result (met) w.if-meets_too.false))
     ]

@@ -10,7 +10,7 @@ use Rattle.basics.specs.Decide.{fails}
 use Rattle.running.proofs.run.Goals as goal
 
 pub returns-then-not-sound : goal.returns-then-not-sound
-returns-then-not-sound c = run_unsound (records_of _ _ _ _) _ _ _ c.refused.ensures (fails c.sound.result c.sound.ensures c.if-not-sound.true) refl
+returns-then-not-sound c = run_unsound (records_of _ _ _ _) _ _ _ (refl, refl, refl) (fails c.sound.result c.sound.ensures c.if-not-sound.true) refl
 
 pub overflow_mul-size : goal.overflow_mul-size
 overflow_mul-size c = let judged : (let a = c.args in Sound (records_of a.size a.tree a.node.now a.row.now)) = holds c.sound.result c.sound.ensures c.if-not-sound.false in
@@ -18,11 +18,11 @@ overflow_mul-size c = let judged : (let a = c.args in Sound (records_of a.size a
 
 pub returns-then-places-size : goal.returns-then-places-size
 returns-then-places-size c = let judged : (let a = c.args in Sound (records_of a.size a.tree a.node.now a.row.now)) = holds c.sound.result c.sound.ensures c.if-not-sound.false in
-    run_places (records_of _ _ _ _) _ _ _ c.refused-then-places-size.ensures (judged) c.if-places-size.true
+    run_places (records_of _ _ _ _) _ _ _ (refl, refl, refl) (judged) c.if-places-size.true
 
 pub returns-then-stream-gt4096 : goal.returns-then-stream-gt4096
 returns-then-stream-gt4096 c = let judged : (let a = c.args in Sound (records_of a.size a.tree a.node.now a.row.now)) = holds c.sound.result c.sound.ensures c.if-not-sound.false in
-    run_long (records_of _ _ _ _) _ _ _ c.refused-then-stream-gt4096.ensures (judged) c.if-places-size.false c.if-stream-gt4096.true
+    run_long (records_of _ _ _ _) _ _ _ (refl, refl, refl) (judged) c.if-places-size.false c.if-stream-gt4096.true
 
 pub room-requires : goal.room-requires
 room-requires c = let judged : (let a = c.args in Sound (records_of a.size a.tree a.node.now a.row.now)) = holds c.sound.result c.sound.ensures c.if-not-sound.false in
@@ -30,7 +30,7 @@ room-requires c = let judged : (let a = c.args in Sound (records_of a.size a.tre
 
 pub returns-then-out-room : goal.returns-then-out-room
 returns-then-out-room c = let judged : (let a = c.args in Sound (records_of a.size a.tree a.node.now a.row.now)) = holds c.sound.result c.sound.ensures c.if-not-sound.false in
-    run_room (records_of _ _ _ _) _ _ _ c.refused-then-out-room.ensures (judged) c.if-places-size.false c.if-stream-gt4096.false (rw (sym c.room.ensures) c.if-out-room.true)
+    run_room (records_of _ _ _ _) _ _ _ (refl, refl, refl) (judged) c.if-places-size.false c.if-stream-gt4096.false (rw (sym c.room.ensures) c.if-out-room.true)
 
 pub lines-last-requires : goal.lines-last-requires
 lines-last-requires c = let judged : (let a = c.args in Sound (records_of a.size a.tree a.node.now a.row.now)) = holds c.sound.result c.sound.ensures c.if-not-sound.false in

@@ -36,4 +36,4 @@ write_row-requires c = let lies : (let a = c.args in (a.i * a.size.width + a.siz
 
 pub returns : goal.returns
 returns c = let a = c.args in
-    row_left a.size a.tag (at a.rows.now a.i) (take a.size.width (drop (a.i * a.size.width) a.bytes.now)) c.pair.ensures (row_part a.size.width (a.i * a.size.width) a.bytes.now) c.write_row.ensures
+    row_left a.size a.tag (at a.rows.now a.i) (take a.size.width (drop (a.i * a.size.width) a.bytes.now)) c.from.ensures (row_part a.size.width (a.i * a.size.width) a.bytes.now) c.write_row.ensures

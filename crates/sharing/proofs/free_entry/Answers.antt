@@ -2,9 +2,6 @@
 use Rattle.sharing.specs.Laws.{pass_free, pass_next, pass_all}
 use Rattle.sharing.proofs.free_entry.Goals as goal
 
-pub loop-i-init : goal.loop-i-init
-loop-i-init c = c.full_to-i.ensures
-
 pub returns-then-node-i-eq0 : goal.returns-then-node-i-eq0
 returns-then-node-i-eq0 c = rw (pass_free _ _ c.loop-i-test.true c.loop-i.invariant c.if-node-i-eq0.true)
 

@@ -4,8 +4,5 @@ use lib.ListN.{length}
 use Rattle.sharing.specs.Laws.{Least}
 use Rattle.sharing.proofs.full.Given as goal
 
-abbrev pub invariant-loop-i : goal.invariant-loop-i
-invariant-loop-i l = (l.i ≤ length l.node) × Least l.node l.i l.least
-
-abbrev pub decreases-loop-i : goal.decreases-loop-i
-decreases-loop-i l = length l.node - l.i
+abbrev pub invariant-loop-n : goal.invariant-loop-n
+invariant-loop-n l = Least l.node l.n-index l.least

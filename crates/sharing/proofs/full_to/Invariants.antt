@@ -3,9 +3,7 @@ use Prim.Native.Nat.{◌-◌}
 use lib.ListN.{length}
 use Rattle.sharing.specs.Laws.{Passed}
 use Rattle.sharing.proofs.full_to.Given as goal
+use Rattle.std.specs.Prelude.{◌*◌}
 
-abbrev pub invariant-loop-from : goal.invariant-loop-from
-invariant-loop-from l = Passed l.node l.from
-
-abbrev pub decreases-loop-from : goal.decreases-loop-from
-decreases-loop-from l = length l.node - l.from
+abbrev pub invariant-loop-k : goal.invariant-loop-k
+invariant-loop-k l = Passed l.node (64 * l.k)

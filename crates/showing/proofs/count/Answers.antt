@@ -1,11 +1,13 @@
 -- `showing::count` meets its contract. Assumes nothing.
+use mathlib.Core.Path.{refl}
+use Rattle.answers.proofs.Laws.{number_some}
 use Rattle.records.specs.Records.{records_of}
 use Rattle.progress.specs.Laws.{answered}
 use Rattle.showing.specs.Laws.{count_refused, count_replied}
 use Rattle.showing.proofs.count.Goals as goal
 
-pub returns-then-answer-ne0 : goal.returns-then-answer-ne0
-returns-then-answer-ne0 c = λ places. answered c.on.ensures (count_refused (records_of _ _ _ _) c.byte-answer.ensures c.if-answer-ne0.true c.count-c.ensures c.plain_line-end.ensures places)
+pub returns-in-Err : goal.returns-in-Err
+returns-in-Err c = λ places. answered c.refused.ensures.goes (count_refused (records_of _ _ _ _) refl (number_some _) c.in-Err.ensures c.refused.ensures.lays places)
 
-pub returns : goal.returns
-returns c = λ places. answered c.on-2.ensures (count_replied (records_of _ _ _ _) c.byte-answer.ensures c.if-answer-ne0.false c.count-c.ensures c.count_line-end.ensures places)
+pub returns-in-Ok : goal.returns-in-Ok
+returns-in-Ok c = λ places. answered c.on.ensures (count_replied (records_of _ _ _ _) refl refl c.in-Ok.ensures c.count_line-end.ensures places)

@@ -12,19 +12,11 @@ loop-k-init c = (climb_start _ _ c.requires.used, (λ d. d, λ d. d))
 pub returns-then-m-g : goal.returns-then-m-g
 returns-then-m-g c = c.loop-k.invariant.1.1 (here c.if-m-g.true)
 
-pub returns-then-m-eq0 : goal.returns-then-m-eq0
-returns-then-m-eq0 c = λ d. meets_root _ _ _ _ c.if-m-g.false c.if-m-eq0.true (c.loop-k.invariant.1.0 d)
-
-pub returns-then-has : goal.returns-then-has
-returns-then-has c = λ d.
-    let a = c.args in
-    meets_marked _ a.marks.now _ _ c.if-m-g.false (rw c.slot.ensures at (sym c.has.ensures ∙ c.if-has.true)) (c.loop-k.invariant.1.0 d)
-
 pub loop-k-preserved : goal.loop-k-preserved
 loop-k-preserved c = let a = c.args in
     let v = c.loop-k.invariant in
     let h = meets_up _ a.marks.now _ _ c.if-m-g.false c.if-m-eq0.false (rw c.slot.ensures at (sym c.has.ensures ∙ c.if-has.false)) in
-    rw c.byte-m.ensures (
+    rw c.from-m.ensures (
       climb_step _ _ _ _ (λ n k. c.requires.seeking.linked.parent n) c.loop-k-test.true c.if-m-eq0.false v.0,
       (λ d. h.0 (v.1.0 d), λ d. v.1.1 (h.1 d)),
     )

@@ -1,13 +1,9 @@
 -- `table::meets` meets its contract: the node reached meets g if and only if n does, and no climb has 128 steps. Assumes nothing.
 use Prim.Native.Nat.{◌-◌}
 use mathlib.Core.Logic.{◌↔◌}
-use Rattle.trees.specs.Trees.{tree_of}
 use Rattle.table.specs.Rules.{Meets}
 use Rattle.tree.specs.Loops.{Climbing}
 use Rattle.table.proofs.meets.Given as goal
 
 abbrev pub invariant-loop-k : goal.invariant-loop-k
-invariant-loop-k l = Climbing (tree_of l.state l.tag l.parent) l.n l.m l.k × (Meets (tree_of l.state l.tag l.parent) l.marks l.r.0 l.g l.n ↔ Meets (tree_of l.state l.tag l.parent) l.marks l.r.0 l.g l.m)
-
-abbrev pub decreases-loop-k : goal.decreases-loop-k
-decreases-loop-k l = 128 - l.k
+invariant-loop-k l = Climbing l.tree l.n l.m l.k × (Meets l.tree l.marks l.r.0 l.g l.n ↔ Meets l.tree l.marks l.r.0 l.g l.m)

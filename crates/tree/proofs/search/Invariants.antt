@@ -7,7 +7,4 @@ use Rattle.basics.specs.Count.{first}
 use Rattle.tree.proofs.search.Given as goal
 
 abbrev pub invariant-loop-n : goal.invariant-loop-n
-invariant-loop-n l = (l.n ≤ 128) × (first (is_version (tree_of l.state l.tag l.parent) l.wanted) l.n ≡ none)
-
-abbrev pub decreases-loop-n : goal.decreases-loop-n
-decreases-loop-n l = 128 - l.n
+invariant-loop-n l = (l.n ≤ 128) × (first (is_version (l.tree) l.wanted) l.n ≡ none)

@@ -9,7 +9,7 @@ use Rattle.trees.specs.Trees.{tree_of}
 use Rattle.trees.specs.Trees.{is_snapshot}
 use Rattle.basics.proofs.CountLaws.{count_yes}
 use Rattle.tree.proofs.snapshots.Goals as goal
-use Rattle.tree.proofs.snapshots.Goals.{else-state-n-eq1, then-state-n-eq1}
+use Rattle.tree.proofs.snapshots.Goals.{else-tree-n-eq1, then-tree-n-eq1}
 
 pub loop-n-init : goal.loop-n-init
 loop-n-init c = (omega arith, omega arith, omega arith, sym (snapshots_first _))
@@ -22,10 +22,10 @@ returns c = let e : c.loop-n.n ≡ 128 = omega arith in
 pub loop-n-preserved : goal.loop-n-preserved
 loop-n-preserved c = let v = c.loop-n.invariant in
     let a = c.args in
-    let t = tree_of a.state.now a.tag.now a.parent.now in
+    let t = a.tree.now in
     let n = c.loop-n.n in (
       omega arith,
       omega arith,
-      elim c.if-state-n-eq1.branch [ then-state-n-eq1 w ↦ omega arith | else-state-n-eq1 w ↦ omega arith ],
-      elim c.if-state-n-eq1.branch [ then-state-n-eq1 w ↦ omega (arith, w.alive-is, v.3, count_yes (is_snapshot t) n (snapshot_yes t n ((λ e. omega (arith, v.0)), (c.loop-n-test.true, w.if-state-n-eq1.true)))) | else-state-n-eq1 w ↦ omega (arith, w.alive-is, v.3, snapshot_past t n w.if-state-n-eq1.false) ],
+      elim c.if-tree-n-eq1.branch [ then-tree-n-eq1 w ↦ omega arith | else-tree-n-eq1 w ↦ omega arith ],
+      elim c.if-tree-n-eq1.branch [ then-tree-n-eq1 w ↦ omega (arith, w.alive-is, v.3, count_yes (is_snapshot t) n (snapshot_yes t n ((λ e. omega (arith, v.0)), (c.loop-n-test.true, w.if-tree-n-eq1.true)))) | else-tree-n-eq1 w ↦ omega (arith, w.alive-is, v.3, snapshot_past t n w.if-tree-n-eq1.false) ],
     )

@@ -6,7 +6,4 @@ use Rattle.basics.specs.Count.{count}
 use Rattle.tree.proofs.snapshots.Given as goal
 
 abbrev pub invariant-loop-n : goal.invariant-loop-n
-invariant-loop-n l = (1 ≤ l.n) × (l.n ≤ 128) × (l.alive < l.n) × (l.alive ≡ count (is_snapshot (tree_of l.state l.tag l.parent)) l.n)
-
-abbrev pub decreases-loop-n : goal.decreases-loop-n
-decreases-loop-n l = 128 - l.n
+invariant-loop-n l = (1 ≤ l.n) × (l.n ≤ 128) × (l.alive < l.n) × (l.alive ≡ count (is_snapshot (l.tree)) l.n)

@@ -9,5 +9,5 @@ use Rattle.tree.proofs.version.Goals as goal
 
 pub returns-then-not-among : goal.returns-then-not-among
 returns-then-not-among c = let a = c.args in
-    let long : length a.tag.now ≡ 128 = search rules in
-    rw (version_none (tree_of a.state.now a.tag.now a.parent.now) a.wanted (λ n l e. fails c.among.result c.among.ensures c.if-not-among.true (n, (rw long l), e)))
+    let long : length a.tree.now.tag ≡ 128 = search rules in
+    rw (version_none (a.tree.now) a.wanted (λ n l e. fails c.among.result c.among.ensures c.if-not-among.true (n, (rw long l), e)))

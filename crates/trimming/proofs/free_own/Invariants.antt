@@ -7,6 +7,3 @@ use Rattle.trimming.proofs.free_own.Given as goal
 
 abbrev pub invariant-loop-i : goal.invariant-loop-i
 invariant-loop-i l = Mapping (own_free l.v l.initial.node) l.initial.node l.node l.i × Mapping (own_free l.v l.initial.node) l.initial.row l.row l.i
-
-abbrev pub decreases-loop-i : goal.decreases-loop-i
-decreases-loop-i l = length l.initial.node - l.i

@@ -4,7 +4,7 @@ use native.Mathlib.Nat.{mul-le-mul}
 use native.Mathlib.Omega.{arith}
 use Rattle.writes.proofs.WritingWays.{places_refused, width_refused}
 use Rattle.soundness.specs.Judged.{judged_sound, judged_unsound, leaves_refused}
-use Rattle.answers.specs.Answers.{bad_length}
+use Rattle.answers.specs.declared.Refusal.TheVariants.{BadLength}
 use Rattle.records.specs.Sound.{Sound}
 use Rattle.records.specs.Records.{records_of}
 use Rattle.basics.specs.Decide.{holds}
@@ -21,11 +21,11 @@ overflow_mul-size c = let judged : (let a = c.args in Sound (records_of a.size a
 
 pub returns-then-places-size : goal.returns-then-places-size
 returns-then-places-size c = let judged : (let a = c.args in Sound (records_of a.size a.tree a.node.now a.row.now)) = holds c.sound.result c.sound.ensures c.if-not-sound.false in
-    judged_sound (judged) (leaves_refused bad_length (places_refused _ _ _ _ _ c.if-places-size.true))
+    judged_sound (judged) (leaves_refused BadLength (places_refused _ _ _ _ _ c.if-places-size.true))
 
 pub returns-then-bytes-size : goal.returns-then-bytes-size
 returns-then-bytes-size c = let judged : (let a = c.args in Sound (records_of a.size a.tree a.node.now a.row.now)) = holds c.sound.result c.sound.ensures c.if-not-sound.false in
-    judged_sound (judged) (leaves_refused bad_length (width_refused _ _ _ _ _ c.if-places-size.false c.if-bytes-size.true))
+    judged_sound (judged) (leaves_refused BadLength (width_refused _ _ _ _ _ c.if-places-size.false c.if-bytes-size.true))
 
 pub write_row-requires : goal.write_row-requires
 write_row-requires c = let judged : (let a = c.args in Sound (records_of a.size a.tree a.node.now a.row.now)) = holds c.sound.result c.sound.ensures c.if-not-sound.false in

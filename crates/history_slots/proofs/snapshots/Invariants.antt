@@ -1,9 +1,0 @@
--- `history_slots::snapshots` is safe and ends. Assumes nothing.
-use Prim.Native.Nat.{◌≤◌, ◌-◌}
-use Rattle.history_slots.proofs.snapshots.Given as goal
-
-abbrev pub invariant-loop-s : goal.invariant-loop-s
-invariant-loop-s l = l.s ≤ 65
-
-abbrev pub decreases-loop-s : goal.decreases-loop-s
-decreases-loop-s l = 65 - l.s

@@ -1,0 +1,12 @@
+-- The row and the number of a read's result: no bytes and 0 if it is refused. Definitions only. Assumes nothing.
+use Rattle.std.specs.Prelude.{List, [], ℕ, Result, Ok, Err}
+use Rattle.answers.specs.declared.Refusal.{Refusal}
+use Rattle.queries.specs.declared.Lent.{Lent}
+
+abbrev pub bytes_of : Result Lent Refusal → List ℕ
+bytes_of (Ok lent) = lent.bytes.now
+bytes_of (Err r) = []
+
+abbrev pub sharers_of : Result Lent Refusal → ℕ
+sharers_of (Ok lent) = lent.sharers
+sharers_of (Err r) = 0
