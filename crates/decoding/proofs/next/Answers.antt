@@ -19,9 +19,6 @@ pub returns-then-stream-p-2 : goal.returns-then-stream-p-2
 unfolding step_at
 returns-then-stream-p-2 c = simp (lt-leb _ _ c.if-stream-p.false, sym c.size_of-n.ensures, ne_eqb _ _ c.if-n-eq0.false, lt-ltb _ _ c.if-stream-p-2.true)
 
-pub command_of-requires : goal.command_of-requires
-command_of-requires c = let e = c.size_of-n.ensures in record { inside = c.if-stream-p.false; known = omega (arith, e, c.if-n-eq0.false); whole = omega (arith, e, c.if-stream-p-2.false, c.if-stream-p.false) }
-
 pub returns : goal.returns
 unfolding step_at
 returns c = let a = c.args in

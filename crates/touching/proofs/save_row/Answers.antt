@@ -8,9 +8,6 @@ use Rattle.writes.proofs.TouchingLaws.{compared, untouched_passes, untouched_lef
 use Rattle.soundness.specs.Judged.{leaves_done, leaves_same}
 use Rattle.touching.proofs.save_row.Goals as goal
 
-pub lookup-seen-requires : goal.lookup-seen-requires
-lookup-seen-requires c = looking_of c.requires
-
 pub holds-requires : goal.holds-requires
 holds-requires c = rw c.lookup-seen.ensures.place (inside_place c.requires)
 
@@ -19,9 +16,6 @@ returns-then-holds c = let tested : (let a = c.args in c.holds.result ≡ untouc
     let there : c.holds.result ≡ true = c.if-holds.true in
     let h = sym (tested) ∙ there in
     leaves_done (untouched_passes _ _ _ _ _ h) (sym (untouched_left _ _ _ _ _ h))
-
-pub store_row-requires : goal.store_row-requires
-store_row-requires c = (c.requires, c.lookup-seen.ensures)
 
 pub returns : goal.returns
 returns c = let tested : (let a = c.args in c.holds.result ≡ untouched_at (records_of a.size a.tree a.node.now a.row.now) a.places.now a.r.0 a.bytes.now a.v) = compared _ _ _ _ _ c.holds.ensures c.lookup-seen.ensures.place in

@@ -11,14 +11,6 @@ use Rattle.basics.specs.Decide.{holds}
 use Rattle.basics.specs.Decide.{fails}
 use Rattle.writing.proofs.write.Goals as goal
 
-pub returns-then-not-sound : goal.returns-then-not-sound
-returns-then-not-sound c = judged_unsound (fails c.sound.result c.sound.ensures c.if-not-sound.true) (refl, refl)
-
-pub overflow_mul-size : goal.overflow_mul-size
-overflow_mul-size c = let judged : (let a = c.args in Sound (records_of a.size a.tree a.node.now a.row.now)) = holds c.sound.result c.sound.ensures c.if-not-sound.false in
-    let w = (judged).measured.within in
-    omega (arith, mul-le-mul w.places.1 w.width.1)
-
 pub returns-then-places-size : goal.returns-then-places-size
 returns-then-places-size c = let judged : (let a = c.args in Sound (records_of a.size a.tree a.node.now a.row.now)) = holds c.sound.result c.sound.ensures c.if-not-sound.false in
     judged_sound (judged) (leaves_refused BadLength (places_refused _ _ _ _ _ c.if-places-size.true))
@@ -26,11 +18,3 @@ returns-then-places-size c = let judged : (let a = c.args in Sound (records_of a
 pub returns-then-bytes-size : goal.returns-then-bytes-size
 returns-then-bytes-size c = let judged : (let a = c.args in Sound (records_of a.size a.tree a.node.now a.row.now)) = holds c.sound.result c.sound.ensures c.if-not-sound.false in
     judged_sound (judged) (leaves_refused BadLength (width_refused _ _ _ _ _ c.if-places-size.false c.if-bytes-size.true))
-
-pub write_row-requires : goal.write_row-requires
-write_row-requires c = let judged : (let a = c.args in Sound (records_of a.size a.tree a.node.now a.row.now)) = holds c.sound.result c.sound.ensures c.if-not-sound.false in
-    (judged, c.if-places-size.false, c.if-bytes-size.false)
-
-pub returns : goal.returns
-returns c = let judged : (let a = c.args in Sound (records_of a.size a.tree a.node.now a.row.now)) = holds c.sound.result c.sound.ensures c.if-not-sound.false in
-    judged_sound (judged) c.write_row.ensures
