@@ -1,11 +1,10 @@
 -- The nodes whose rows can lose their last reader when the version at node v goes. Assumes nothing.
-use Rattle.std.specs.Prelude.{◌≡◌, ◌≢◌, ◌⊎◌, List, length, set}
+use Rattle.std.specs.Prelude.{◌≡◌, ◌≢◌, ◌⊎◌, Bool, true, false, List, length, set, get_or}
 use Rattle.std.proofs.Math.Path.{refl, ap}
 use Rattle.std.proofs.Common.{sym, ◌∙◌, inl, inr, ⊎_elim, arith, length-set, get_or-set_same, get_or-set_other}
 use Rattle.std.proofs.Math.Logic.{by_cases}
 use Prim.Native.Nat.{ℕ, zero, suc, ◌+◌, ◌<◌}
 use Rattle.std.proofs.Math.Decide.{ℕ_discrete}
-use Rattle.basics.specs.Decide.{at}
 use Rattle.trees.specs.declared.Tree.{Tree}
 use Rattle.trees.specs.Trees.{InUse, Alive, Snapshot, up, ancestor, Reaches}
 use Rattle.trees.specs.Rules.{States, Linked}
@@ -15,38 +14,42 @@ use Rattle.table.specs.Rules.{Meets, here, above}
 use Rattle.table.proofs.Laws.{climb_ends}
 use Rattle.asking.specs.Asking.{MeetsAlone}
 
--- a number for each of 128 nodes: it is 1 where the version at node v alone can read a row of the node. Left free: the others, since a 1 costs only a
--- question
-pub record Affected (t : Tree) (v : ℕ) (xs : List ℕ) : Type 0 where
+-- what is told of a node, false past the end
+abbrev pub told : List Bool → ℕ → Bool
+told xs n = get_or xs n false
+
+-- a truth value for each of 128 nodes: it is true where the version at node v alone can read a row of the node. Left free: the others, since a true costs
+-- only a question
+pub record Affected (t : Tree) (v : ℕ) (xs : List Bool) : Type 0 where
   pub size : length xs ≡ 128
-  pub all : (marks : List ℕ) (g r : ℕ) → g < 128 → MeetsAlone t marks v g r → at xs g ≡ 1
+  pub all : (marks : List ℕ) (g r : ℕ) → g < 128 → MeetsAlone t marks v g r → told xs g ≡ true
 
--- while going up from v, with node m next: what v meets has a number, or m meets it too
-pub record Passing (t : Tree) (v : ℕ) (xs : List ℕ) (m : ℕ) : Type 0 where
+-- while going up from v, with node m next: what v meets is told, or m meets it too
+pub record Passing (t : Tree) (v : ℕ) (xs : List Bool) (m : ℕ) : Type 0 where
   pub size : length xs ≡ 128
-  pub met : (marks : List ℕ) (g r : ℕ) → Meets t marks r g v → (at xs g ≡ 1) ⊎ Meets t marks r g m
+  pub met : (marks : List ℕ) (g r : ℕ) → Meets t marks r g v → (told xs g ≡ true) ⊎ Meets t marks r g m
 
--- Numbers given one by one, going up
+-- Told one by one, going up
 
-module _ (t : Tree) (v : ℕ) (xs : List ℕ) where
+module _ (t : Tree) (v : ℕ) (xs : List Bool) where
   pub passing_first : length xs ≡ 128 → Passing t v xs v
   passing_first e = record { size = e; met = λ marks g r m. inr m }
 
-  -- node m gets its 1, and the way goes on above it
-  pub passing_next : (m : ℕ) → m < 128 → Passing t v xs m → Passing t v (set xs m 1) (up t m)
+  -- node m is told, and the way goes on above it
+  pub passing_next : (m : ℕ) → m < 128 → Passing t v xs m → Passing t v (set xs m true) (up t m)
   passing_next m l p = record {
-    size = length-set xs m 1 ∙ p.size;
+    size = length-set xs m true ∙ p.size;
     met = λ marks g r h. ⊎_elim (λ z. inl (kept g z)) (λ d. over marks g r d refl) (p.met marks g r h);
   }
     where
-      new : at (set xs m 1) m ≡ 1
-      new = get_or-set_same xs m 1 0 (omega (arith, p.size))
+      new : told (set xs m true) m ≡ true
+      new = get_or-set_same xs m true false (omega (arith, p.size))
 
-      kept : (g : ℕ) → at xs g ≡ 1 → at (set xs m 1) g ≡ 1
-      kept g z = by_cases (ℕ_discrete g m) (λ e. ap (at (set xs m 1)) e ∙ new) (λ e. get_or-set_other xs m g 1 0 e ∙ z)
+      kept : (g : ℕ) → told xs g ≡ true → told (set xs m true) g ≡ true
+      kept g z = by_cases (ℕ_discrete g m) (λ e. ap (told (set xs m true)) e ∙ new) (λ e. get_or-set_other xs m g true false e ∙ z)
 
-      over : (marks : List ℕ) (g r : ℕ) {n : ℕ} → Meets t marks r g n → n ≡ m → (at (set xs m 1) g ≡ 1) ⊎ Meets t marks r g (up t m)
-      over marks g r (here e) q = inl (ap (at (set xs m 1)) (sym e ∙ q) ∙ new)
+      over : (marks : List ℕ) (g r : ℕ) {n : ℕ} → Meets t marks r g n → n ≡ m → (told (set xs m true) g ≡ true) ⊎ Meets t marks r g (up t m)
+      over marks g r (here e) q = inl (ap (told (set xs m true)) (sym e ∙ q) ∙ new)
       over marks g r (above a z f d) q = inr (rw (← q) d)
 
   -- a living node above v reads what v read there

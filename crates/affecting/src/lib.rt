@@ -7,15 +7,15 @@ ghost use Rattle.affecting.specs.Affected.{Affected};
 
 use trees::Tree;
 
-// A 1 for each of these nodes, 0 for the others.
-pub fn affected(tree: &Tree, v: usize) -> [u8; 128]
+// True for each of these nodes, false for the others.
+pub fn affected(tree: &Tree, v: usize) -> [bool; 128]
     requires { States tree.now × Linked tree.now × Snapshot tree.now v }
     ensures { Affected tree.now v result }
 {
-    let mut xs = [0u8; 128];
+    let mut xs = [false; 128];
     let mut m = v;
     for k in 0..128usize {
-        xs[m] = 1;
+        xs[m] = true;
         m = usize::from(tree.parent[m]);
         if tree.state[m] == 1 {
             return xs;

@@ -15,23 +15,24 @@ use Rattle.text.specs.Text.{line, dash}
 use Rattle.laying.specs.Laid.{Lays}
 use Rattle.laying.specs.Laws.{lays_as}
 use Rattle.commands.specs.Format.{row_at}
-use Rattle.progress.specs.Replying.{Replied, Replies}
+use Rattle.progress.specs.Replying.{Replied}
 
 module _ {k from to : ℕ} {out out' : List ℕ} where
-  -- w is the number that a call answered, as the line has it
-  pub snapshot_replied : (z : Records) {source new n w : ℕ} {t : Tree} → w ≡ n → SnapshotEnds z source new n t → Lays out from (line k w dash) out' to
-      → Replies z (one (snapshot source new)) k out from (records_of z.size t z.node z.row) out' to
-  snapshot_replied z {n = n} e s l = λ places. record { hands = handed n [] []; ends = snapshot_ends s; lays = lays_as (rw (e, shown_plain n)) l; short = rw (shown_plain n) (omega arith) }
+  -- of the number that a call answered, as its line has it; a snapshot is taken of the records as they are seen
+  pub snapshot_replied : {y z : Records} {places : List ℕ} {source new n : ℕ} {t u : Tree} → y ≡ z → t ≡ u → SnapshotEnds y source new n t → Lays out from (line k n dash) out' to
+      → Replied z places (one (snapshot source new)) k out from (records_of z.size u z.node z.row) places out' to
+  snapshot_replied {n = n} e f s l =
+      rw (← f) (record { hands = handed n [] []; ends = snapshot_ends (rw e at s); lays = lays_as (rw (shown_plain n)) l; short = rw (shown_plain n) (omega arith) })
 
-  pub delete_replied : (z : Records) {tag n w : ℕ} {got : Left} → w ≡ n → DeleteEnds z tag n got → Lays out from (line k w dash) out' to
-      → Replies z (one (delete tag)) k out from (records_of z.size got.tree got.node got.row) out' to
-  delete_replied z {n = n} e s l = λ places. record { hands = handed n [] []; ends = delete_ends s; lays = lays_as (rw (e, shown_plain n)) l; short = rw (shown_plain n) (omega arith) }
+  pub delete_replied : {z : Records} {places : List ℕ} {tag n : ℕ} {got : Left} → DeleteEnds z tag n got → Lays out from (line k n dash) out' to
+      → Replied z places (one (delete tag)) k out from (records_of z.size got.tree got.node got.row) places out' to
+  delete_replied {n = n} s l = record { hands = handed n [] []; ends = delete_ends s; lays = lays_as (rw (shown_plain n)) l; short = rw (shown_plain n) (omega arith) }
 
   -- a write, of row q and the bytes of the stream
-  pub write_replied : (z : Records) (places : List ℕ) {tag q x n w : ℕ} {bs cs : List ℕ} {got : Held} → x ≡ q → bs ≡ cs → w ≡ n → WriteEnds z places tag x bs n got → Lays out from (line k w dash) out' to
+  pub write_replied : {z : Records} {places : List ℕ} {tag q x n : ℕ} {bs cs : List ℕ} {got : Held} → x ≡ q → bs ≡ cs → WriteEnds z places tag x bs n got → Lays out from (line k n dash) out' to
       → Replied z places (one (write tag q cs)) k out from (records_of z.size got.tree got.node got.row) got.places out' to
-  write_replied z places {n = n} h b e s l =
-      rw (sym h, sym b) (record { hands = handed n [] []; ends = write_ends s; lays = lays_as (rw (e, shown_plain n)) l; short = rw (shown_plain n) (omega arith) })
+  write_replied {n = n} h b s l =
+      rw (sym h, sym b) (record { hands = handed n [] []; ends = write_ends s; lays = lays_as (rw (shown_plain n)) l; short = rw (shown_plain n) (omega arith) })
 
 -- the part of the stream that a write brings
 pub row_part : (width : ℕ) (s : List ℕ) (p : ℕ) → take (((p + 5) + width) - (p + 5)) (drop (p + 5) s) ≡ row_at width s p

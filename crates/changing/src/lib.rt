@@ -2,73 +2,68 @@
 #![tactic(auto)]
 
 ghost use Rattle.std.specs.Prelude.{◌≡◌, ◌+◌, ◌≤◌, length};
-ghost use Rattle.answers.specs.Results.{answer_of, left_of};
+ghost use Rattle.answers.specs.Results.{answer_of};
 ghost use Rattle.commands.specs.Format.{row_at};
 ghost use Rattle.laying.specs.Laid.{Lays};
 ghost use Rattle.model.specs.Call.{snapshot, write, delete, one};
-ghost use Rattle.progress.specs.Replying.{onward, Room, Answered, Answers};
+ghost use Rattle.progress.specs.Replying.{onward, progress_of, SameRun, HasLine, RunAnswers};
 ghost use Rattle.text.specs.Text.{line, dash};
 
 use answers::Refusal;
 use measures::Row;
-use progress::Progress;
-use trees::Tree;
+use progress::Run;
+use readers::Reader;
 
-// The run behind a call, and its line.
-fn reply(run: Progress, returned: Result<Tree, Refusal>, out: &mut [u8]) -> Progress
-    requires { Room run 12 out.old }
-    ensures goes { result ≡ onward run (left_of run.tree returned) result.end }
-    ensures lays { Lays out.old run.end (line run.line (answer_of returned) dash) out.new result.end }
+// The line of a call, behind which the run goes on.
+fn reply(run: &mut Run<'_, '_, '_>, answer: Result<(), Refusal>)
+    requires { HasLine run.old 12 }
+    ensures same { SameRun run.old run.new }
+    ensures goes { progress_of run.new ≡ onward (progress_of run.old) run.old.records.now.tree run.new.text.now.end }
+    ensures lays { Lays run.old.text.now.bytes.now run.old.text.now.end (line run.old.line (answer_of answer) dash)
+        run.new.text.now.bytes.now run.new.text.now.end }
+    ensures held { (run.new.records.now ≡ run.old.records.now) × (run.new.places.now ≡ run.old.places.now) }
 {
-    let number = usize::from(answers::answer_of(&returned));
-    let end = text::plain_line(out, run.end, run.line, number);
-    progress::on(run, returned.unwrap_or(run.tree), end)
+    let number = usize::from(answers::answer_of(&answer));
+    text::plain_line(run.text, run.line, number);
+    run.goes_on();
 }
 
 // A snapshot, and its line.
-pub fn snapshot(
-    run: Progress,
-    node: &[u8],
-    row: &[u16],
-    source: u16,
-    tag: u16,
-    out: &mut [u8],
-) -> Progress
-    requires { Room run 12 out.old }
-    ensures { Answers run node.now row.now (one (snapshot source tag)) out.old result node.now row.now out.new }
+pub fn snapshot(run: &mut Run<'_, '_, '_>, source: u16, tag: u16)
+    requires { HasLine run.old 12 }
+    ensures same { SameRun run.old run.new }
+    ensures answers { RunAnswers run.old (one (snapshot source tag)) run.new }
 {
-    let s = snapshots::snapshot(run.size, run.tree, node, row, source, tag);
-    reply(run, s, out)
+    match snapshots::snapshot(&run.records.view(), source, tag) {
+        Ok(tree) => {
+            run.records.tree = tree;
+            reply(run, Ok(()));
+        }
+        Err(refusal) => reply(run, Err(refusal)),
+    }
 }
 
 // A delete, and its line.
-pub fn delete(run: Progress, node: &mut [u8], row: &mut [u16], tag: u16, out: &mut [u8]) -> Progress
-    requires { Room run 12 out.old }
-    ensures { Answers run node.old row.old (one (delete tag)) out.old result node.new row.new out.new }
+pub fn delete(run: &mut Run<'_, '_, '_>, tag: u16)
+    requires { HasLine run.old 12 }
+    ensures same { SameRun run.old run.new }
+    ensures answers { RunAnswers run.old (one (delete tag)) run.new }
 {
-    let d = deleting::delete(run.size, run.tree, node, row, tag);
-    reply(run, d, out)
+    let deleted = deleting::delete(run.records, tag);
+    reply(run, deleted);
 }
 
 // A write of a row by its number in the stream, with the bytes that stand behind it, and its line.
-pub fn write(
-    run: Progress,
-    stream: &[u8],
-    at: usize,
-    node: &mut [u8],
-    row: &mut [u16],
-    places: &mut [u8],
-    tag: u16,
-    r: u16,
-    out: &mut [u8],
-) -> Progress
-    requires { Room run 12 out.old × ((at + 5) + run.size.width ≤ length stream.now) }
-    ensures { Answered run node.old row.old places.old (one (write tag r (row_at run.size.width stream.now at))) out.old
-        result node.new row.new places.new out.new }
+pub fn write(run: &mut Run<'_, '_, '_>, reader: Reader<'_>, tag: u16, r: u16)
+    requires { HasLine run.old 12 × ((reader.at + 5) + run.old.records.now.size.width ≤ length reader.stream.now) }
+    ensures same { SameRun run.old run.new }
+    ensures answers { RunAnswers run.old
+        (one (write tag r (row_at run.old.records.now.size.width reader.entry.stream.now reader.entry.at))) run.new }
 {
-    let width = run.size.width;
-    let bytes = &stream[at + 5..at + 5 + width];
+    let from = reader.at + 5;
+    let width = run.records.size.width;
+    let bytes = &reader.stream[from..from + width];
     let r = Row(usize::from(r));
-    let w = writing::write(run.size, run.tree, node, row, places, tag, r, bytes);
-    reply(run, w, out)
+    let written = writing::write(run.records, run.places, tag, r, bytes);
+    reply(run, written);
 }

@@ -24,7 +24,7 @@ pub fn climb(tree: &Tree, notes: &[u16; 128], n: usize, r: Row) -> Place
     let mut m = n;
     for k in 0..128usize {
         if m == 0 {
-            return measures::home(r);
+            return r.home();
         }
         let above = usize::from(tree.parent[m]);
         let note = notes[m];
@@ -33,5 +33,5 @@ pub fn climb(tree: &Tree, notes: &[u16; 128], n: usize, r: Row) -> Place
         }
         m = above;
     }
-    measures::home(r)
+    r.home()
 }

@@ -27,14 +27,16 @@ pub struct Step {
     pub number: u8,
 }
 
-// Is it a command whose call can change the store?
-pub fn changes(command: Command) -> bool
-    ensures { result ≡ changes command }
-{
-    matches!(
-        command,
-        Command::Snapshot { .. } | Command::Write { .. } | Command::Delete { .. }
-    )
+impl Command {
+    // Is it a command whose call can change the store?
+    pub fn changes(self) -> bool
+        ensures { result ≡ changes self }
+    {
+        matches!(
+            self,
+            Command::Snapshot { .. } | Command::Write { .. } | Command::Delete { .. }
+        )
+    }
 }
 
 // How many bytes a command has, where a row has `width`; 0 if the kind is unknown. The kind is the stream's byte, which may have any value.

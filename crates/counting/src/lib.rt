@@ -2,13 +2,12 @@
 #![tactic(auto)]
 
 ghost use Rattle.answers.specs.Results.{answer_of};
-ghost use Rattle.records.specs.Records.{records_of};
+ghost use Rattle.records.specs.Lent.{seen};
 ghost use Rattle.counting.specs.Counted.{used_of, snapshots_of};
 ghost use Rattle.counting.specs.Counting.{CountEnds};
 
 use answers::Refusal;
-use measures::Size;
-use trees::{Entries, Tree};
+use records::View;
 
 // Places in use and snapshots alive.
 #[derive(Clone, Copy, Debug, PartialEq, Eq)]
@@ -18,18 +17,13 @@ pub struct Counts {
 }
 
 // Refusal: 20.
-pub fn count(size: Size, tree: Tree, node: &[u8], row: &[u16]) -> Result<Counts, Refusal>
-    ensures { CountEnds (records_of size tree node.now row.now) (answer_of result) (used_of result) (snapshots_of result) }
+pub fn count(view: &View) -> Result<Counts, Refusal>
+    ensures { CountEnds (seen view.now) (answer_of result) (used_of result) (snapshots_of result) }
 {
-    if !soundness::sound(size, &tree, node, row) {
+    if !soundness::sound(view) {
         return Err(Refusal::Unsound);
     }
-    let table = Entries {
-        rows: size.rows,
-        node,
-        row,
-    };
-    let used = reading::used(&table);
-    let snapshots = tree::snapshots(&tree);
+    let used = reading::used(&view.entries());
+    let snapshots = tree::snapshots(view.tree);
     Ok(Counts { used, snapshots })
 }

@@ -3,6 +3,7 @@ use Rattle.std.specs.Prelude.{◌≡◌, not, List, [], ◌∷◌, ℕ, eqb}
 use Rattle.std.proofs.Math.Option.{Option, none, some}
 use Rattle.trees.specs.declared.Tree.{Tree}
 use Rattle.records.specs.Records.{Records, table, lives}
+use Rattle.records.specs.declared.Records.{Records as Lent}
 use Rattle.trees.specs.Trees.{Snapshot, version}
 use Rattle.records.specs.Sound.{Sound}
 use Rattle.answers.specs.declared.Refusal.{Refusal}
@@ -27,6 +28,10 @@ pub record Left : Type 0 where
 
 abbrev pub left : Tree → List ℕ → List ℕ → Left
 left tree node row = record { tree = tree; node = node; row = row }
+
+-- of the records as they are lent
+abbrev pub left_in : Lent → Left
+left_in z = left z.tree z.node.now z.row.now
 
 -- The effect: the entries that only v reads are freed, v becomes a ghost, and what is superfluous goes
 

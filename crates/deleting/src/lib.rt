@@ -2,21 +2,23 @@
 #![tactic(auto)]
 
 ghost use Rattle.std.specs.Prelude.{◌≡◌, ◌*◌, ◌≤◌, length};
-ghost use Rattle.answers.specs.Results.{answer_of, left_of};
-ghost use Rattle.records.specs.Records.{records_of, table};
+ghost use Rattle.answers.specs.Results.{answer_of};
+ghost use Rattle.records.specs.Records.{table};
+ghost use Rattle.records.specs.Lent.{lent, SameLent};
 ghost use Rattle.table.specs.Rules.{Marked, Blank};
-ghost use Rattle.deletes.specs.Deleting.{left, deleted_at, Deletable, DeleteEnds};
+ghost use Rattle.deletes.specs.Deleting.{left_in, deleted_at, Deletable, DeleteEnds};
 
 use answers::Refusal;
 use listing::NodesInUse;
-use measures::Size;
-use trees::Tree;
+use records::Records;
 
 // The version at node v goes, wherever it stands, and with it what only it read. The marks are those of the records' check.
-fn remove(size: Size, tree: Tree, node: &mut [u8], row: &mut [u16], marks: &[u8], v: usize) -> Tree
-    requires { Deletable (records_of size tree node.old row.old) v × Marked (table (records_of size tree node.old row.old)) marks.now (length node.old) }
-    ensures { left result node.new row.new ≡ deleted_at (records_of size tree node.old row.old) v }
+fn remove(records: &mut Records<'_>, marks: &[u8], v: usize)
+    requires { Deletable (lent records.old) v × Marked (table (lent records.old)) marks.now (length records.old.node.now) }
+    ensures same { SameLent records.old records.new }
+    ensures removed { left_in records.new ≡ deleted_at (lent records.old) v }
 {
+    let tree = records.tree;
     let gone = pruning::ghosted(tree, v);
     let mut list = [0u8; 128];
     let k = listing::list(&tree.state, &mut list);
@@ -24,70 +26,59 @@ fn remove(size: Size, tree: Tree, node: &mut [u8], row: &mut [u16], marks: &[u8]
         tree: &tree,
         used: &list[..k],
     };
-    freeing::free_alone(&nodes, &gone, size.rows, node, row, marks, v);
+    freeing::free_alone(&nodes, &gone, records, marks, v);
     let stand = pruning::pruned(gone, v);
-    pruning::settled(stand.tree, stand.node, node)
+    records.tree = pruning::settled(stand.tree, stand.node, records.node);
 }
 
 // The delete, with marks that are all 0. A version without a child right below a living one is quickly gone.
-fn delete_marked(
-    size: Size,
-    tree: Tree,
-    node: &mut [u8],
-    row: &mut [u16],
-    marks: &mut [u8],
-    tag: u16,
-) -> Result<Tree, Refusal>
-    requires { Blank size.rows marks.old }
-    ensures { DeleteEnds (records_of size tree node.old row.old) tag (answer_of result) (left (left_of tree result) node.new row.new) }
+fn delete_marked(records: &mut Records<'_>, marks: &mut [u8], tag: u16) -> Result<(), Refusal>
+    requires { Blank records.old.size.rows marks.old }
+    ensures same { SameLent records.old records.new }
+    ensures ends { DeleteEnds (lent records.old) tag (answer_of result) (left_in records.new) }
 {
-    if !soundness::judged(size, &tree, node, row, marks) {
+    if !soundness::judged(&records.view(), marks) {
         return Err(Refusal::Unsound);
     }
     if tag == 0 {
         return Err(Refusal::OriginTag);
     }
-    let Some(v) = tree::version(&tree, tag) else {
+    let Some(v) = tree::version(&records.tree, tag) else {
         return Err(Refusal::UnknownTag);
     };
-    if trimming::loose(&tree, v) {
-        trimming::free_own(node, row, v);
-        return Ok(pruning::emptied(tree, v));
+    if trimming::loose(&records.tree, v) {
+        trimming::free_own(records, v);
+        records.tree = pruning::emptied(records.tree, v);
+        return Ok(());
     }
-    Ok(remove(size, tree, node, row, marks, v))
+    remove(records, marks, v);
+    Ok(())
 }
 
 // The delete, with N marks.
-fn delete_with<const N: usize>(
-    size: Size,
-    tree: Tree,
-    node: &mut [u8],
-    row: &mut [u16],
-    tag: u16,
-) -> Result<Tree, Refusal>
+fn delete_with<const N: usize>(records: &mut Records<'_>, tag: u16) -> Result<(), Refusal>
     requires few { N ≤ 16384 }
-    requires room { size.rows ≤ 1024 → size.rows * 16 ≤ N }
-    ensures { DeleteEnds (records_of size tree node.old row.old) tag (answer_of result) (left (left_of tree result) node.new row.new) }
+    requires room { records.old.size.rows ≤ 1024 → records.old.size.rows * 16 ≤ N }
+    ensures same { SameLent records.old records.new }
+    ensures ends { DeleteEnds (lent records.old) tag (answer_of result) (left_in records.new) }
 {
     let mut marks = [0u8; N];
-    delete_marked(size, tree, node, row, &mut marks, tag)
+    delete_marked(records, &mut marks, tag)
 }
 
 // Refusals: 20, 5, 21. A refusal changes nothing. There are as many marks as the rows call for: 16 bytes for each.
-pub fn delete(
-    size: Size,
-    tree: Tree,
-    node: &mut [u8],
-    row: &mut [u16],
-    tag: u16,
-) -> Result<Tree, Refusal>
-    ensures { DeleteEnds (records_of size tree node.old row.old) tag (answer_of result) (left (left_of tree result) node.new row.new) }
+// Its frame stays its own: together with a caller's buffers it would be probed in a loop.
+#[inline(never)]
+pub fn delete(records: &mut Records<'_>, tag: u16) -> Result<(), Refusal>
+    ensures same { SameLent records.old records.new }
+    ensures ends { DeleteEnds (lent records.old) tag (answer_of result) (left_in records.new) }
 {
-    if size.rows <= 16 {
-        return delete_with::<256>(size, tree, node, row, tag);
+    // The three sizes stand here, since a function has the size of an array only as a parameter of its own.
+    if records.size.rows <= 16 {
+        return delete_with::<256>(records, tag);
     }
-    if size.rows <= 128 {
-        return delete_with::<2048>(size, tree, node, row, tag);
+    if records.size.rows <= 128 {
+        return delete_with::<2048>(records, tag);
     }
-    delete_with::<16384>(size, tree, node, row, tag)
+    delete_with::<16384>(records, tag)
 }

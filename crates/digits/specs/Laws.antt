@@ -1,4 +1,4 @@
--- How long numbers in digits are, and each laid from its digits. Assumes nothing.
+-- How long numbers in digits are, and each digit by cases. Assumes nothing.
 use Rattle.std.specs.Prelude.{◌≡◌, Bool, true, false, cond, List, [], ◌∷◌, ◌++◌, ℕ, ◌+◌, ◌*◌, ◌/◌, ◌%◌, ◌≤◌, ◌<◌, ltb, length}
 use Rattle.std.proofs.Common.{◌∙◌, ap, arith, lt-ltb, le-ltb, length-append}
 use Rattle.laying.specs.Laid.{Lays}
@@ -47,7 +47,14 @@ pub place_some : (p n x : ℕ) → p ≤ n → x ≡ digit (n / p % 10) → x �
 unfolding place
 place_some p n x l e = rw (le-ltb n p l, e)
 
--- a digit takes one byte at most
+-- Bytes in base sixteen
+
+pub hex_size : (bs : List ℕ) → length (hex bs) ≡ 2 * length bs
+unfolding hex
+hex_size bs = twos_size high_digit low_digit bs
+
+-- Each laid from its digits, and the room that it takes
+
 pub place_room : (q n : ℕ) {b : List ℕ} {p : ℕ} {a : List ℕ} {to : ℕ} → Lays b p (place q n) a to → (to ≤ p + 1) × (length a ≡ length b)
 place_room q n l = (omega (arith, l.ends, place_most q n), l.size)
 
@@ -58,12 +65,6 @@ decimal_laid n e x y z w = lays_then x (lays_then y (lays_then z (lays_as (ap (�
 
 pub decimal_room : (n : ℕ) {b : List ℕ} {p : ℕ} {a : List ℕ} {to : ℕ} → Lays b p (decimal n) a to → (to ≤ p + 4) × (length a ≡ length b)
 decimal_room n l = (omega (arith, l.ends, decimal_most n), l.size)
-
--- Bytes in base sixteen
-
-pub hex_size : (bs : List ℕ) → length (hex bs) ≡ 2 * length bs
-unfolding hex
-hex_size bs = twos_size high_digit low_digit bs
 
 pub hex_room : (bs : List ℕ) {b : List ℕ} {p : ℕ} {a : List ℕ} {to : ℕ} → Lays b p (hex bs) a to → (to ≡ p + 2 * length bs) × (length a ≡ length b)
 hex_room bs l = (l.ends ∙ omega (arith, hex_size bs), l.size)

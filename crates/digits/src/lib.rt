@@ -1,9 +1,11 @@
-// Numbers in base ten and bytes in base sixteen, laid as text. Each function returns the position behind what it laid.
+// Numbers in base ten and bytes in base sixteen, laid as text.
 #![tactic(auto)]
 
-ghost use Rattle.std.specs.Prelude.{◌≡◌, ◌+◌, ◌*◌, ◌≤◌, ◌<◌, length};
-ghost use Rattle.laying.specs.Laid.{Lays};
+ghost use Rattle.std.specs.Prelude.{◌≡◌, ◌*◌, ◌<◌, length};
+ghost use Rattle.laying.specs.Writing.{HasRoom, Adds};
 ghost use Rattle.digits.specs.Digits.{digit, place, decimal, hex};
+
+use laying::Writer;
 
 // The code of a digit below 16.
 fn digit(d: u8) -> u8
@@ -14,35 +16,33 @@ fn digit(d: u8) -> u8
 }
 
 // The digit of n that stands for p, if n has it.
-fn place(out: &mut [u8], at: usize, n: usize, p: usize) -> usize
-    requires { (at < length out.old) × (0 < p) }
-    ensures { Lays out.old at (place p n) out.new result }
+fn place(out: &mut Writer<'_>, n: usize, p: usize)
+    requires { HasRoom out.old 1 × (0 < p) }
+    ensures { Adds out.old (place p n) out.new }
 {
-    if n < p {
-        return at;
+    if n >= p {
+        out.put(digit((n / p % 10) as u8));
     }
-    laying::put(out, at, digit((n / p % 10) as u8))
 }
 
 // A number below 10,000.
-pub fn decimal(out: &mut [u8], at: usize, n: usize) -> usize
-    requires { at + 4 ≤ length out.old }
-    ensures { Lays out.old at (decimal n) out.new result }
+#[tactic(auto, using(crate::specs::Laws::place_most))]
+pub fn decimal(out: &mut Writer<'_>, n: usize)
+    requires { HasRoom out.old 4 }
+    ensures { Adds out.old (decimal n) out.new }
 {
-    let a = place(out, at, n, 1000);
-    let b = place(out, a, n, 100);
-    let c = place(out, b, n, 10);
-    laying::put(out, c, digit((n % 10) as u8))
+    place(out, n, 1000);
+    place(out, n, 100);
+    place(out, n, 10);
+    out.put(digit((n % 10) as u8));
 }
 
 // Two digits for each byte.
-pub fn hex(out: &mut [u8], at: usize, bytes: &[u8]) -> usize
-    requires { at + 2 * length bytes.now ≤ length out.old }
-    ensures { Lays out.old at (hex bytes.now) out.new result }
+pub fn hex(out: &mut Writer<'_>, bytes: &[u8])
+    requires { HasRoom out.old (2 * length bytes.now) }
+    ensures { Adds out.old (hex bytes.now) out.new }
 {
-    let mut to = at;
     for byte in bytes {
-        to = laying::two(out, to, digit(byte / 16), digit(byte % 16));
+        out.two(digit(byte / 16), digit(byte % 16));
     }
-    to
 }

@@ -5,7 +5,6 @@ use mathlib.Core.Logic.Dec
 use Rattle.std.proofs.Math.Logic.{by_cases}
 use Rattle.std.proofs.Math.Option.{Option, none, some}
 use Rattle.std.proofs.Math.Decide.{ℕ_discrete}
-use Rattle.basics.specs.Decide.{at}
 use Rattle.records.specs.Records.{Records, table}
 use Rattle.trees.specs.Trees.{InUse, Snapshot, up, Child}
 use Rattle.trees.specs.Reading.{entry, place}

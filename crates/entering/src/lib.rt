@@ -25,7 +25,7 @@ fn enter(tree: &Tree, table: &Entries, i: usize, marks: &mut [u8]) -> bool
         return false;
     }
     let r = Row(usize::from(table.row[i]));
-    if !measures::has_row(table.rows, r) {
+    if !r.is_below(table.rows) {
         return false;
     }
     let k = table::slot(n, r);

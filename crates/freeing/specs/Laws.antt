@@ -1,5 +1,5 @@
 -- An entry is lonely if and only if one version alone meets its node; and entries freed one by one, up to the last. Assumes nothing.
-use Rattle.std.specs.Prelude.{◌≡◌, refl, ◌≢◌, ◌↔◌, true, false, List, ℕ, ◌+◌, ◌≤◌, ◌<◌, length, set}
+use Rattle.std.specs.Prelude.{◌≡◌, refl, ◌≢◌, ◌↔◌, Bool, true, false, List, ℕ, ◌+◌, ◌≤◌, ◌<◌, length, set}
 use Rattle.std.proofs.Common.{sym, ◌∙◌, ap, arith, length-set, get_or-set_same, get_or-set_other}
 use Rattle.std.proofs.Math.Logic.{by_cases}
 use Rattle.std.proofs.lemmas.Bool.{false≢true}
@@ -16,7 +16,7 @@ use Rattle.table.proofs.Laws.{meets_reads, reads_meets}
 use Rattle.removal.specs.Removal.{lonely, Freed}
 use Rattle.removal.proofs.FreeLonely.{tested, lonely_of, lonely_yes, lonely_taken}
 use Rattle.asking.specs.Asking.{MeetsAlone, Asking}
-use Rattle.affecting.specs.Affected.{Affected}
+use Rattle.affecting.specs.Affected.{Affected, told}
 
 -- entries below i are free if they are lonely, and the others are as they were
 pub record FreedTo (t : Tree) (e : Table) (v i : ℕ) (node row : List ℕ) : Type 0 where
@@ -125,5 +125,5 @@ module _ (t : Tree) (e : Table) (marks : List ℕ) (h : Judging t e marks) (v : 
   alone_not f = tested (lonely t e v i) (λ x. absurd (f (lonely_alone x))) (λ x. x)
 
   -- nor is one of a node that is not affected
-  pub unaffected_not : (xs : List ℕ) → Affected t v xs → at xs (at e.node i) ≢ 1 → lonely t e v i ≡ false
-  unaffected_not xs a z = alone_not (λ m. z (a.all marks (at e.node i) (at e.row i) node_low m))
+  pub unaffected_not : (xs : List Bool) → Affected t v xs → told xs (at e.node i) ≡ false → lonely t e v i ≡ false
+  unaffected_not xs a z = alone_not (λ m. false≢true (sym z ∙ a.all marks (at e.node i) (at e.row i) node_low m))

@@ -1,47 +1,39 @@
 // Freeing what only one version reads, entry by entry, with a mark for each node and row that an entry names.
 #![tactic(auto)]
 
-ghost use Rattle.std.specs.Prelude.{◌≡◌, true, take, IfSome};
-ghost use Rattle.trees.specs.Trees.{table_of, Snapshot};
+ghost use Rattle.std.specs.Prelude.{◌≡◌, take, IfSome};
+ghost use Rattle.trees.specs.Trees.{Snapshot};
 ghost use Rattle.trees.specs.Rules.{States};
 ghost use Rattle.table.specs.Rules.{Judging};
-ghost use Rattle.asking.specs.Asking.{Childless};
 ghost use Rattle.affecting.specs.Affected.{Affected};
 ghost use Rattle.ordering.specs.Ordered.{Ordered};
+ghost use Rattle.records.specs.Records.{table};
+ghost use Rattle.records.specs.Lent.{lent, SameLent};
 ghost use Rattle.removal.specs.Removal.{Freed};
 
-use guessing::Children;
 use listing::NodesInUse;
 use measures::Row;
-use ordering::Queue;
+use reaching::Removal;
+use records::Records;
 use trees::Tree;
 
 // The entries that only the version at node v reads become free. Only those of affected nodes are asked. The marks are those of the table as it was.
-fn free_affected(
-    tree: &Tree,
-    without: &Tree,
-    order: &Option<Queue>,
-    kin: &Children,
-    affected: &[u8; 128],
-    leaf: bool,
-    rows: usize,
-    node: &mut [u8],
-    row: &mut [u16],
-    marks: &[u8],
-    v: usize,
-)
-    requires { Snapshot tree.now v × Judging tree.now (table_of rows node.old row.old) marks.now
-        × Affected tree.now v affected.now × (leaf ≡ true → Childless tree.now v)
-        × IfSome order.now (λ q. Ordered tree.now (take q.count q.node) q.end) }
-    ensures { Freed tree.now (table_of rows node.old row.old) v node.new row.new }
+fn free_affected(removal: &Removal, affected: &[bool; 128], records: &mut Records<'_>)
+    requires { Snapshot removal.now.tree.now removal.now.v
+        × Judging removal.now.tree.now (table (lent records.old)) removal.now.marks.now
+        × Affected removal.now.tree.now removal.now.v affected.now
+        × IfSome removal.now.order.now (λ q. Ordered removal.now.tree.now (take q.count q.node) q.end) }
+    ensures same { SameLent records.old records.new }
+    ensures kept { records.new.tree ≡ records.old.tree }
+    ensures freed { Freed removal.now.tree.now (table (lent records.old)) removal.now.v records.new.node.now records.new.row.now }
 {
-    for i in 0..node.len() {
-        let g = usize::from(node[i]);
-        if affected[g] == 1 {
-            let r = Row(usize::from(row[i]));
-            if reaching::alone(tree, without, order, kin, marks, v, leaf, g, r) {
-                node[i] = 0;
-                row[i] = 0;
+    for i in 0..records.node.len() {
+        let g = usize::from(records.node[i]);
+        if affected[g] {
+            let r = Row(usize::from(records.row[i]));
+            if reaching::alone(removal, g, r) {
+                records.node[i] = 0;
+                records.row[i] = 0;
             }
         }
     }
@@ -51,23 +43,29 @@ fn free_affected(
 pub fn free_alone(
     nodes: &NodesInUse,
     without: &Tree,
-    rows: usize,
-    node: &mut [u8],
-    row: &mut [u16],
+    records: &mut Records<'_>,
     marks: &[u8],
     v: usize,
 )
     requires { States nodes.now.tree.now × Snapshot nodes.now.tree.now v
-        × Judging nodes.now.tree.now (table_of rows node.old row.old) marks.now }
-    ensures { Freed nodes.now.tree.now (table_of rows node.old row.old) v node.new row.new }
+        × Judging nodes.now.tree.now (table (lent records.old)) marks.now }
+    ensures same { SameLent records.old records.new }
+    ensures kept { records.new.tree ≡ records.old.tree }
+    ensures freed { Freed nodes.now.tree.now (table (lent records.old)) v records.new.node.now records.new.row.now }
 {
     let tree = nodes.tree;
     let affected = affecting::affected(tree, v);
-    let leaf = nodes::childless(tree, v);
     let near = nearing::near(nodes);
     let kin = guessing::kin(nodes, &near);
     let order = ordering::order(nodes, &kin);
-    free_affected(
-        tree, without, &order, &kin, &affected, leaf, rows, node, row, marks, v,
-    );
+    let removal = Removal {
+        tree,
+        without,
+        order: &order,
+        kin: &kin,
+        marks,
+        v,
+        leaf: nodes::childless(tree, v),
+    };
+    free_affected(&removal, &affected, records);
 }

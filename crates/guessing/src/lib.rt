@@ -10,7 +10,7 @@ use listing::NodesInUse;
 use measures::Row;
 use trees::Tree;
 
-// The nodes' children: each node's first one, and the one after each child; 0 where there is none.
+// The nodes' children: each node's first one, and the one after each child; 0 where there is none. Arrays of node numbers: there is no heap on board.
 #[derive(Clone, Copy)]
 pub struct Children {
     pub first: [u8; 128],

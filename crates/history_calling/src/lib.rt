@@ -8,6 +8,7 @@ use counting::Counts;
 use history_plans::{Border, Call, Outcome, Write};
 use measures::{Row, Size};
 use queries::Lent;
+use records::{Records, View};
 use trees::Tree;
 
 // The most entries and bytes of places that there is room for.
@@ -77,20 +78,20 @@ impl Store {
     fn places(&self) -> &[u8] {
         &self.places[..self.bytes()]
     }
+
+    fn view(&self) -> View<'_> {
+        View {
+            size: self.size,
+            tree: &self.tree,
+            node: self.node(),
+            row: self.row(),
+        }
+    }
 }
 
 // The calls. The parts of a store that is behind a reference cannot be lent one beside the other: so what a call may write is
 // lent of a copy, which then takes the store's place.
 impl Store {
-    // What a call made of this store stands in its place, with the tree that the call left.
-    fn keep(mut self, left: Result<Tree, Refusal>, place: &mut Store) -> Result<(), Refusal> {
-        if let Ok(tree) = left {
-            self.tree = tree;
-        }
-        *place = self;
-        left.map(|_| ())
-    }
-
     pub fn open(&mut self) -> Result<(), Refusal> {
         let mut store = *self;
         let entries = store.entries();
@@ -101,35 +102,23 @@ impl Store {
             &mut store.node[..entries],
             &mut store.row[..entries],
         );
-        store.keep(opened, self)
+        if let Ok(tree) = opened {
+            store.tree = tree;
+        }
+        *self = store;
+        opened.map(|_| ())
     }
 
     pub fn count(&self) -> Result<Counts, Refusal> {
-        counting::count(self.size, self.tree, self.node(), self.row())
+        counting::count(&self.view())
     }
 
     pub fn read(&self, tag: u16, row: usize) -> Result<Lent<'_>, Refusal> {
-        queries::read(
-            self.size,
-            self.tree,
-            self.node(),
-            self.row(),
-            self.places(),
-            tag,
-            Row(row),
-        )
+        queries::read(&self.view(), self.places(), tag, Row(row))
     }
 
     fn snapshot(&mut self, source: u16, new: u16) -> Result<(), Refusal> {
-        let snapped = snapshots::snapshot(
-            self.size,
-            self.tree,
-            self.node(),
-            self.row(),
-            source,
-            new,
-        );
-        self.tree = snapped?;
+        self.tree = snapshots::snapshot(&self.view(), source, new)?;
         Ok(())
     }
 
@@ -137,34 +126,42 @@ impl Store {
         let mut store = *self;
         let entries = store.entries();
         let bytes = store.bytes();
+        let mut records = Records {
+            size: store.size,
+            tree: store.tree,
+            node: &mut store.node[..entries],
+            row: &mut store.row[..entries],
+        };
         let written = writing::write(
-            store.size,
-            store.tree,
-            &mut store.node[..entries],
-            &mut store.row[..entries],
+            &mut records,
             &mut store.places[..bytes],
             write.tag,
             Row(write.row),
             write.bytes.as_slice(),
         );
-        store.keep(written, self)
+        store.tree = records.tree;
+        *self = store;
+        written
     }
 
     fn border(&mut self, border: &Border) -> Outcome {
         let mut store = *self;
         let entries = store.entries();
         let bytes = store.bytes();
+        let mut records = Records {
+            size: store.size,
+            tree: store.tree,
+            node: &mut store.node[..entries],
+            row: &mut store.row[..entries],
+        };
         let bordered = bordering::border(
-            store.size,
-            store.tree,
-            &mut store.node[..entries],
-            &mut store.row[..entries],
+            &mut records,
             &mut store.places[..bytes],
             border.tag,
             border.rows(),
             border.bytes.as_slice(),
         );
-        store.tree = bordered.tree;
+        store.tree = records.tree;
         *self = store;
         Outcome {
             answer: bordered.refusal.map_or(Ok(()), Err),
@@ -175,14 +172,16 @@ impl Store {
     fn delete(&mut self, tag: u16) -> Result<(), Refusal> {
         let mut store = *self;
         let entries = store.entries();
-        let removed = deleting::delete(
-            store.size,
-            store.tree,
-            &mut store.node[..entries],
-            &mut store.row[..entries],
-            tag,
-        );
-        store.keep(removed, self)
+        let mut records = Records {
+            size: store.size,
+            tree: store.tree,
+            node: &mut store.node[..entries],
+            row: &mut store.row[..entries],
+        };
+        let deleted = deleting::delete(&mut records, tag);
+        store.tree = records.tree;
+        *self = store;
+        deleted
     }
 
     // Makes a call.

@@ -10,6 +10,7 @@ ghost use Rattle.host_count.specs.Counts.{HostCounts};
 use answers::Refusal;
 use counting::Counts;
 use layout::TABLE_AT;
+use records::View;
 
 // Places in use and snapshots alive. Refusal: 20.
 pub fn count(records: &[u8]) -> Result<Counts, Refusal>
@@ -18,7 +19,7 @@ pub fn count(records: &[u8]) -> Result<Counts, Refusal>
     if !layout::fits(records) {
         return Err(Refusal::Unsound);
     }
-    // The smallest buffer that serves. A function or macro that chose it would be handed what the call is handed, three times.
+    // The smallest buffer that serves, chosen as in the calls that write: a closure that is lent it does not prove there, as `host_write` says.
     let n = layout::entries(records);
     if n <= 64 {
         return count_in::<64>(records, n);
@@ -40,5 +41,11 @@ fn count_in<const N: usize>(records: &[u8], n: usize) -> Result<Counts, Refusal>
     let size = layout::size(records);
     let tree = loading::load(records, row);
     let to = TABLE_AT + n;
-    counting::count(size, tree, &records[TABLE_AT..to], row)
+    let view = View {
+        size,
+        tree: &tree,
+        node: &records[TABLE_AT..to],
+        row,
+    };
+    counting::count(&view)
 }

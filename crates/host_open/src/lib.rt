@@ -8,6 +8,7 @@ ghost use Rattle.layout.specs.Layout.{records_size, stored};
 ghost use Rattle.host_open.specs.Opens.{HostOpens, first_records};
 
 use answers::Refusal;
+use laying::Writer;
 use measures::Size;
 
 // The records of an opened store: its measures, node 0 alive, and zeros.
@@ -16,16 +17,21 @@ fn lay_first(records: &mut [u8], size: Size)
     ensures { records.new ≡ stored (first_records size) }
 {
     let first = recording::head(size);
-    let a = laying::lay_numbers(records, 0, &first);
-    let b = laying::put(records, a, 1);
-    opening::clear(&mut records[b..]);
+    let mut out = Writer {
+        bytes: records,
+        end: 0,
+    };
+    out.lay_numbers(&first);
+    out.put(1);
+    let end = out.end;
+    opening::clear(&mut out.bytes[end..]);
 }
 
 // A store of given measures. Refusals: 1, 2.
 pub fn open(records: &mut [u8], places: &mut [u8], size: Size) -> Result<(), Refusal>
     ensures { HostOpens size records.old places.old (answer_of result) (records.new, places.new) }
 {
-    if !measures::within(size) {
+    if !size.within() {
         return Err(Refusal::BadSize);
     }
     if places.len() != size.places * size.width {

@@ -12,6 +12,7 @@ use answers::Refusal;
 use layout::TABLE_AT;
 use measures::{Row, Size};
 use queries::Lent;
+use records::View;
 
 // A row of the version with a tag is copied to `out`, and handed out is how many living versions share it. Refusals: 20, 2, 3, 21.
 pub fn read(
@@ -26,7 +27,7 @@ pub fn read(
     if !layout::fits(records) {
         return Err(Refusal::Unsound);
     }
-    // The smallest buffer that serves. A function or macro that chose it would be handed what the call is handed, three times.
+    // The smallest buffer that serves. Tried: a closure that is lent it. What such a closure is lent by `&mut` is not known after it was called.
     let n = layout::entries(records);
     if n <= 64 {
         return read_in::<64>(records, n, places, tag, r, out);
@@ -55,7 +56,13 @@ fn read_in<const N: usize>(
     let size = layout::size(records);
     let tree = loading::load(records, row);
     let to = TABLE_AT + n;
-    let lent = queries::read(size, tree, &records[TABLE_AT..to], row, places, tag, r);
+    let view = View {
+        size,
+        tree: &tree,
+        node: &records[TABLE_AT..to],
+        row,
+    };
+    let lent = queries::read(&view, places, tag, r);
     copy_row(size, lent, out)
 }
 
@@ -73,7 +80,7 @@ fn copy_row(size: Size, read: Result<Lent, Refusal>, out: &mut [u8]) -> Result<u
     }
     match read {
         Ok(lent) => {
-            placing::fill(out, lent.bytes);
+            out.copy_from_slice(lent.bytes);
             Ok(lent.sharers)
         }
         Err(refusal) => Err(refusal),

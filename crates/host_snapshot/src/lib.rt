@@ -8,6 +8,7 @@ ghost use Rattle.host_snapshot.specs.Snapshots.{HostSnapshots};
 
 use answers::Refusal;
 use layout::TABLE_AT;
+use records::View;
 
 // A snapshot of the version with a tag, under a new tag. Refusals: 20, 4, 21, 22, 23.
 pub fn snapshot(records: &mut [u8], source: u16, tag: u16) -> Result<(), Refusal>
@@ -16,7 +17,7 @@ pub fn snapshot(records: &mut [u8], source: u16, tag: u16) -> Result<(), Refusal
     if !layout::fits(records) {
         return Err(Refusal::Unsound);
     }
-    // The smallest buffer that serves. A function or macro that chose it would be handed what the call is handed, three times.
+    // The smallest buffer that serves. Tried: a closure that is lent it. What such a closure is lent by `&mut` is not known after it was called.
     let n = layout::entries(records);
     if n <= 64 {
         return snapshot_in::<64>(records, n, source, tag);
@@ -43,7 +44,13 @@ fn snapshot_in<const N: usize>(
     let size = layout::size(records);
     let tree = loading::load(records, row);
     let to = TABLE_AT + n;
-    let next = snapshots::snapshot(size, tree, &records[TABLE_AT..to], row, source, tag)?;
+    let view = View {
+        size,
+        tree: &tree,
+        node: &records[TABLE_AT..to],
+        row,
+    };
+    let next = snapshots::snapshot(&view, source, tag)?;
     recording::renew_tree(records, next);
     Ok(())
 }

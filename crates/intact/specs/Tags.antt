@@ -7,8 +7,8 @@ use Rattle.tree.specs.Nodes.{version_alive}
 use Rattle.records.specs.Records.{Records}
 use Rattle.records.specs.Sound.{Sound}
 
-pub OriginTag : (z : Records) → Sound z → (tag : ℕ) → version z.tree tag ≡ some 0 → tag ≡ 0
-OriginTag z s tag h = sym (version_alive z.tree tag 0 h).1 ∙ s.states.root.1
+pub origin_tag : (z : Records) → Sound z → (tag : ℕ) → version z.tree tag ≡ some 0 → tag ≡ 0
+origin_tag z s tag h = sym (version_alive z.tree tag 0 h).1 ∙ s.states.root.1
 
 pub snapshot_tag : (z : Records) → Sound z → (tag v : ℕ) → version z.tree tag ≡ some v → v ≢ 0 → tag ≢ 0
 snapshot_tag z s tag v h off = λ e. let (a, g) = version_alive z.tree tag v h in omega (arith, s.tagged.above v (off, a))

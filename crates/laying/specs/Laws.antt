@@ -12,7 +12,9 @@ use Rattle.std.proofs.lemmas.List.{length-replicate, get_or-replicate, set_split
 use Rattle.std.proofs.Math.Seq.{length-take-le, take-suc}
 use Rattle.basics.specs.Decide.{at}
 use Rattle.scanning.specs.Zero.{ZeroFrom}
+use Rattle.laying.specs.declared.Writer.{Writer}
 use Rattle.laying.specs.Laid.{laid, Lays, twos, high_byte, low_byte, pairs, numbers, pair_at}
+use Rattle.laying.specs.Writing.{HasRoom, Adds}
 
 module _ (b : List ℕ) (p : ℕ) (t : List ℕ) (m : p + length t ≤ length b) where
   -- up to the end of what was laid
@@ -81,6 +83,17 @@ one_room l = (l.ends, l.size)
 pub lays_as : {b : List ℕ} {p : ℕ} {t u a : List ℕ} {to : ℕ} → t ≡ u → Lays b p t a to → Lays b p u a to
 lays_as e l = rw (sym e) l
 
+-- The same of a writer
+
+pub adds_none : {w : Writer} → w.end ≤ length w.bytes.now → Adds w [] w
+adds_none l = record { lays = lays_none _ _ l; lent = refl }
+
+pub adds_then : {u v w : Writer} {s t : List ℕ} → Adds u s v → Adds v t w → Adds u (s ++ t) w
+adds_then a b = record { lays = lays_then a.lays b.lays; lent = b.lent ∙ a.lent }
+
+pub adds_as : {v w : Writer} {s t : List ℕ} → s ≡ t → Adds v s w → Adds v t w
+adds_as e a = record { lays = lays_as e a.lays; lent = a.lent }
+
 -- Two bytes for each number of a list, and the loop that has laid them for the first i
 
 module _ (f g : ℕ → ℕ) where
@@ -94,32 +107,32 @@ module _ (f g : ℕ → ℕ) where
   twos_append [] ys = refl
   twos_append (x ∷ xs) ys = ap (λ (r : List ℕ). f x ∷ g x ∷ r) (twos_append xs ys)
 
-  pub record Laying (xs before : List ℕ) (p : ℕ) (after : List ℕ) (to i : ℕ) : Type 0 where
+  pub record Laying (xs : List ℕ) (before after : Writer) (i : ℕ) : Type 0 where
     pub most : i ≤ length xs
-    pub fits : p + 2 * length xs ≤ length before
-    pub lays : Lays before p (twos f g (take i xs)) after to
+    pub fits : HasRoom before (2 * length xs)
+    pub adds : Adds before (twos f g (take i xs)) after
 
-  pub laying_start : (xs b : List ℕ) (p : ℕ) → p + 2 * length xs ≤ length b → Laying xs b p b p 0
+  pub laying_start : (xs : List ℕ) (w : Writer) → HasRoom w (2 * length xs) → Laying xs w w 0
   unfolding twos
-  laying_start xs b p l = record { most = omega arith; fits = l; lays = lays_none b p (omega arith) }
+  laying_start xs w l = record { most = omega arith; fits = l; adds = adds_none (omega arith) }
 
-  module _ (xs : List ℕ) (i : ℕ) {b : List ℕ} {p : ℕ} {a₁ : List ℕ} {to₁ : ℕ} (h : Laying xs b p a₁ to₁ i) where
+  module _ (xs : List ℕ) (i : ℕ) {u v : Writer} (h : Laying xs u v i) where
     -- there is room for two more
-    pub laying_room : i < length xs → to₁ + 2 ≤ length a₁
-    laying_room l = omega (arith, h.lays.ends, h.lays.size, h.fits, twos_size (take i xs), length-take-le i xs h.most)
+    pub laying_room : i < length xs → HasRoom v 2
+    laying_room l = omega (arith, h.adds.lays.ends, h.adds.lays.size, h.fits, twos_size (take i xs), length-take-le i xs h.most)
 
-    pub laying_next : {x y : ℕ} {a : List ℕ} {to : ℕ} → i < length xs → x ≡ f (at xs i) → y ≡ g (at xs i) → Lays a₁ to₁ (x ∷ y ∷ []) a to → Laying xs b p a to (i + 1)
+    pub laying_next : {x y : ℕ} {w : Writer} → i < length xs → x ≡ f (at xs i) → y ≡ g (at xs i) → Adds v (x ∷ y ∷ []) w → Laying xs u w (i + 1)
     unfolding twos
     laying_next l e k j =
         let one : i + 1 ≡ suc i = omega arith in
         record {
           most = omega arith;
           fits = h.fits;
-          lays = lays_as (rw (one, take-suc xs i 0 l, twos_append (take i xs) (at xs i ∷ []), e, k)) (lays_then h.lays j);
+          adds = adds_as (rw (one, take-suc xs i 0 l, twos_append (take i xs) (at xs i ∷ []), e, k)) (adds_then h.adds j);
         }
 
-    pub laying_all : length xs ≤ i → Lays b p (twos f g xs) a₁ to₁
-    laying_all l = lays_as (ap (twos f g) (take_all i xs l)) h.lays
+    pub laying_all : length xs ≤ i → Adds u (twos f g xs) v
+    laying_all l = adds_as (ap (twos f g) (take_all i xs l)) h.adds
 
 -- 16-bit numbers
 

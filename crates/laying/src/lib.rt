@@ -1,48 +1,57 @@
-// Bytes laid into lent ones from a position on, and 16-bit numbers as two bytes, the high one first.
-// What lays returns the position behind it.
+// Bytes laid into lent ones, each behind the last, and 16-bit numbers as two bytes, the high one first.
 #![tactic(auto)]
 
 ghost use Rattle.std.specs.Prelude.{◌≡◌, [], ◌∷◌, ◌+◌, ◌*◌, ◌≤◌, ◌<◌, length, replicate};
-ghost use Rattle.laying.specs.Laid.{Lays, pairs, numbers, pair_at};
+ghost use Rattle.laying.specs.Laid.{pairs, numbers, pair_at};
+ghost use Rattle.laying.specs.Writing.{HasRoom, Adds};
 ghost use Rattle.laying.specs.Laws.{Loading, Same, Stops};
 
-pub fn put(out: &mut [u8], at: usize, byte: u8) -> usize
-    requires { at < length out.old }
-    ensures { Lays out.old at (byte ∷ []) out.new result }
-{
-    out[at] = byte;
-    at + 1
+// Lent bytes, and the position behind what was laid in them.
+#[derive(Drop)]
+pub struct Writer<'a> {
+    pub bytes: &'a mut [u8],
+    pub end: usize,
 }
 
-// Two bytes.
-pub fn two(out: &mut [u8], at: usize, a: u8, b: u8) -> usize
-    requires { at + 2 ≤ length out.old }
-    ensures { Lays out.old at (a ∷ b ∷ []) out.new result }
-{
-    let next = put(out, at, a);
-    put(out, next, b)
-}
-
-// Bytes as they are.
-pub fn lay(out: &mut [u8], at: usize, bytes: &[u8]) -> usize
-    requires { at + length bytes.now ≤ length out.old }
-    ensures { Lays out.old at bytes.now out.new result }
-{
-    let to = at + bytes.len();
-    out[at..to].copy_from_slice(bytes);
-    to
-}
-
-pub fn lay_numbers(out: &mut [u8], at: usize, xs: &[u16]) -> usize
-    requires { at + 2 * length xs.now ≤ length out.old }
-    ensures { Lays out.old at (pairs xs.now) out.new result }
-{
-    let mut to = at;
-    for x in xs {
-        let [high, low] = x.to_be_bytes();
-        to = two(out, to, high, low);
+impl Writer<'_> {
+    pub fn put(&mut self, byte: u8)
+        requires { HasRoom self.old 1 }
+        ensures { Adds self.old (byte ∷ []) self.new }
+    {
+        let at = self.end;
+        self.bytes[at] = byte;
+        self.end = at + 1;
     }
-    to
+
+    // Two bytes.
+    pub fn two(&mut self, a: u8, b: u8)
+        requires { HasRoom self.old 2 }
+        ensures { Adds self.old (a ∷ b ∷ []) self.new }
+    {
+        self.put(a);
+        self.put(b);
+    }
+
+    // Bytes as they are.
+    pub fn lay(&mut self, bytes: &[u8])
+        requires { HasRoom self.old (length bytes.now) }
+        ensures { Adds self.old bytes.now self.new }
+    {
+        let at = self.end;
+        let to = at + bytes.len();
+        self.bytes[at..to].copy_from_slice(bytes);
+        self.end = to;
+    }
+
+    pub fn lay_numbers(&mut self, xs: &[u16])
+        requires { HasRoom self.old (2 * length xs.now) }
+        ensures { Adds self.old (pairs xs.now) self.new }
+    {
+        for x in xs {
+            let [high, low] = x.to_be_bytes();
+            self.two(high, low);
+        }
+    }
 }
 
 // The number that begins at p. Its two bytes are read from a part of their own, so that the compiler reads them at once.

@@ -126,6 +126,11 @@ module _ (b : List ℕ) (f : Fits b) where
 pub nodes_lent : (b node : List ℕ) {k : ℕ} → k ≡ length node → table_at + length node ≤ length b → Lays b table_at node (take table_at b ++ (node ++ drop ((table_at + k) - table_at) (drop table_at b))) (table_at + length node)
 nodes_lent b node e l = rw e (lays_part b table_at node node l refl)
 
+-- and k nodes that were changed where they lie
+pub nodes_changed : {b : List ℕ} (f : Fits b) (low : (i : ℕ) → at b i < 256) {k : ℕ} → k ≡ entries (size_at b) → (node : List ℕ) → length node ≡ k
+    → Renoded b f low node (take table_at b ++ (node ++ drop ((table_at + k) - table_at) (drop table_at b)))
+nodes_changed {b} f low e node l = nodes_laid_anew b f low node (l ∙ e) (nodes_lent b node (sym l) (omega (arith, l, e, f.long)))
+
 -- the records' own measures and nodes are the bytes'
 pub loaded_size : (b : List ℕ) → (loaded b).size ≡ size_at b
 unfolding loaded

@@ -45,7 +45,7 @@ pub fn fits(records: &[u8]) -> bool
         return false;
     }
     let size = size(records);
-    measures::within(size) && records.len() == records_size(size)
+    size.within() && records.len() == records_size(size)
 }
 
 // How many entries the table has.

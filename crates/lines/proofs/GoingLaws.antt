@@ -9,9 +9,8 @@ use Rattle.theorem.specs.Trace.{state, left_by}
 use Rattle.laying.specs.Laws.{lays_none, lays_then, lays_as}
 use Rattle.commands.specs.declared.Step.{Step}
 use Rattle.commands.specs.Format.{step_at, calls_from}
-use Rattle.progress.specs.declared.Progress.{Progress}
 use Rattle.lines.specs.Turns.{Ready, reached, Turned}
-use Rattle.progress.specs.Replying.{line_room, records_in}
+use Rattle.progress.specs.Replying.{Progress, line_room, records_in}
 use Rattle.lines.proofs.TurnLaws.{text_over, final_over, left_over}
 use Rattle.lines.specs.Loop.{Begins, Through, to_go}
 use Rattle.lines.specs.Loop as loop

@@ -13,9 +13,8 @@ use Rattle.answers.specs.Answers.{number}
 use Rattle.answers.specs.Tests.{refusal, verdict_number}
 use Rattle.answers.proofs.Laws.{refusal_here, refusal_next, refusal_none, number_some}
 use Rattle.soundness.specs.Judged.{judged_sound, judged_unsound}
-use Rattle.progress.specs.declared.Progress.{Progress}
 use Rattle.lines.specs.Streams.{run_tests, Kept, StreamEnds}
-use Rattle.progress.specs.Replying.{line_room, records_in}
+use Rattle.progress.specs.Replying.{Progress, line_room, records_in}
 use Rattle.lines.specs.Loop.{Through}
 
 -- What a run answers

@@ -28,9 +28,8 @@ use Rattle.commands.specs.declared.Step.{Step}
 use Rattle.commands.specs.declared.Command.TheVariants.{Over, Write}
 use Rattle.commands.specs.Format.{refusal_of, changes, step_at, call_at, calls_from, end_from}
 use Rattle.commands.specs.Laws.{stands, step_over, call_next, call_inside, not_over, step_number, write_inside}
-use Rattle.progress.specs.declared.Progress.{Progress}
 use Rattle.lines.specs.Lines.{numbered, end_line, text_from}
-use Rattle.progress.specs.Replying.{line_room, records_in, stopped, Room, Answered, Stopped}
+use Rattle.progress.specs.Replying.{Progress, line_room, records_in, stopped, Room, Answered, Stopped}
 use Rattle.lines.specs.Turns.{Ready, Onward, Turned}
 
 -- The calls from a position on: one and the rest, or none

@@ -6,10 +6,10 @@ use Rattle.steps.specs.Calls.{Runs}
 use Rattle.theorem.specs.Trace.{state, left_by}
 use Rattle.laying.specs.Laid.{Lays}
 use Rattle.commands.specs.Format.{calls_from, calls}
-use Rattle.progress.specs.declared.Progress.{Progress}
 use Rattle.lines.specs.Lines.{text_from}
 use Rattle.lines.specs.Output.{output, last_model, RanAll}
-use Rattle.progress.specs.Replying.{line_room, records_in}
+use Rattle.progress.specs.declared.Run.{Run}
+use Rattle.progress.specs.Replying.{Progress, line_room, records_in, progress_of}
 
 -- a run at its start, with room for every line
 pub record Begins (width : ℕ) (first : Progress) (s out : List ℕ) : Type 0 where
@@ -23,6 +23,15 @@ pub record Begins (width : ℕ) (first : Progress) (s out : List ℕ) : Type 0 w
 pub record Through (first : Progress) (node row places s out : List ℕ) (r : Progress) (node' row' places' out' : List ℕ) : Type 0 where
   pub sized : r.size ≡ first.size
   pub goes : (m : Model) → Runs (records_in first node row) places m → RanAll (records_in first node row) places s out (records_in r node' row') places' out' r.end m
+
+-- the same of a run as it is lent
+abbrev pub RunBegins : ℕ → Run → List ℕ → Type 0
+RunBegins width run s = Begins width (progress_of run) s run.text.now.bytes.now
+
+abbrev pub RunThrough : Run → List ℕ → Run → Type 0
+RunThrough a s b =
+    Through (progress_of a) a.records.now.node.now a.records.now.row.now a.places.now s a.text.now.bytes.now
+    (progress_of b) b.records.now.node.now b.records.now.row.now b.places.now b.text.now.bytes.now
 
 -- what a run has yet to do: it ends, or a command is passed
 abbrev pub to_go : List ℕ → Progress → ℕ → ℕ

@@ -7,8 +7,8 @@ use Rattle.steps.specs.Calls.{Runs}
 use Rattle.laying.specs.Laid.{Lays}
 use Rattle.commands.specs.declared.Step.{Step}
 use Rattle.commands.specs.Format.{step_at, calls_from}
-use Rattle.progress.specs.declared.Progress.{Progress}
-use Rattle.progress.specs.Replying.{line_room, records_in, Room}
+use Rattle.progress.specs.declared.Run.{Run}
+use Rattle.progress.specs.Replying.{Progress, line_room, records_in, Room, progress_of}
 use Rattle.lines.specs.Lines.{text_from}
 
 -- what stands at a position was read there, and its line has room
@@ -48,3 +48,12 @@ pub record Turned (run : Progress) (node row places s : List ℕ) (at : ℕ) (ou
   pub few : r.line + at ≤ run.line + reached s r next
   pub serves : (m : Model) → Runs (records_in run node row) places m
       → Served (records_in run node row) places s at run.line m out run.end (records_in r node' row') places' out' (reached s r next) r.line r.end
+
+-- the same of a run as it is lent
+abbrev pub RunReady : Run → Step → List ℕ → ℕ → Type 0
+RunReady run step s at = Ready (progress_of run) step s at run.text.now.bytes.now
+
+abbrev pub RunTurned : Run → List ℕ → ℕ → Run → ℕ → Type 0
+RunTurned a s at b next =
+    Turned (progress_of a) a.records.now.node.now a.records.now.row.now a.places.now s at a.text.now.bytes.now
+    (progress_of b) b.records.now.node.now b.records.now.row.now b.places.now b.text.now.bytes.now next

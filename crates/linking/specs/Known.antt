@@ -1,10 +1,10 @@
 -- Nodes that are known to reach node 0. Assumes nothing.
-use Rattle.std.specs.Prelude.{◌≡◌, ◌≢◌, ◌⊎◌, List, ℕ, zero, suc, ◌+◌, ◌<◌, length, set, replicate}
+use Rattle.std.specs.Prelude.{◌≡◌, ◌≢◌, ◌⊎◌, Bool, true, false, List, ℕ, zero, suc, ◌+◌, ◌<◌, get_or, length, set, replicate}
 use Rattle.std.proofs.Common.{sym, ◌∙◌, ap, ⊎_elim, arith, length-set, get_or-set_same, get_or-set_other}
-use Rattle.std.proofs.Math.Logic.{by_cases}
+use Rattle.std.proofs.Math.Logic.{by_cases, inr}
 use Rattle.std.proofs.Math.Decide.{ℕ_discrete}
 use Rattle.std.proofs.lemmas.List.{length-replicate, get_or-replicate}
-use Rattle.basics.specs.Decide.{at}
+use Rattle.std.proofs.lemmas.Bool.{false≢true}
 use Rattle.trees.specs.declared.Tree.{Tree}
 use Rattle.trees.specs.Trees.{InUse, up, ancestor, Reaches}
 use Rattle.tree.specs.Going.{ancestor_more, reaches_root}
@@ -14,41 +14,40 @@ use Rattle.tree.specs.Loops.{Climbing}
 abbrev pub AllReach : Tree → Type 0
 AllReach t = (n : ℕ) → n ≢ 0 → InUse t n → Reaches (up t) n
 
--- each of 128 nodes whose number is not 0 reaches node 0, and node 0 is such a one. Left free: of which other nodes it is known, since that only saves steps
-pub record Known (t : Tree) (known : List ℕ) : Type 0 where
+-- each of 128 nodes that is noted reaches node 0, and node 0 is such a one. Left free: which other nodes are noted, since that only saves steps
+pub record Known (t : Tree) (known : List Bool) : Type 0 where
   pub size : length known ≡ 128
-  pub root : at known 0 ≢ 0
-  pub reaches : (n : ℕ) → n < 128 → at known n ≢ 0 → Reaches (up t) n
+  pub root : get_or known 0 false ≡ true
+  pub reaches : (n : ℕ) → n < 128 → get_or known n false ≡ true → Reaches (up t) n
 
 module _ (t : Tree) where
-  pub known_next : (known : List ℕ) (n : ℕ) → n < 128 → Reaches (up t) n → Known t known → Known t (set known n 1)
+  -- what is noted stays so, and so is the node that is noted now
+  pub known_stays : (known : List Bool) (m n : ℕ) → m < 128 → Known t known → (n ≡ m) ⊎ (get_or known n false ≡ true) → get_or (set known m true) n false ≡ true
+  known_stays known m n l k h = by_cases (ℕ_discrete n m)
+      (λ e. ap (λ (i : ℕ). get_or (set known m true) i false) e ∙ get_or-set_same known m true false (omega (arith, k.size)))
+      (λ e. get_or-set_other known m n true false e ∙ ⊎_elim (λ x. absurd (e x)) (λ x. x) h)
+
+  pub known_next : (known : List Bool) (n : ℕ) → n < 128 → Reaches (up t) n → Known t known → Known t (set known n true)
   known_next known n l r k = record {
-    size = length-set known n 1 ∙ k.size;
-    root = by_cases (ℕ_discrete 0 n) (λ e z. omega (arith, ap (at (set known n 1)) e ∙ new, z)) (λ e z. k.root (sym (get_or-set_other known n 0 1 0 e) ∙ z));
-    reaches = λ m b z. by_cases (ℕ_discrete m n) (λ e. rw e r) (λ e. k.reaches m b (λ x. z (get_or-set_other known n m 1 0 e ∙ x)));
+    size = length-set known n true ∙ k.size;
+    root = known_stays known n 0 l k (inr k.root);
+    reaches = λ m b z. by_cases (ℕ_discrete m n) (λ e. rw e r) (λ e. k.reaches m b (sym (get_or-set_other known n m true false e) ∙ z));
   }
-    where
-      new : at (set known n 1) n ≡ 1
-      new = get_or-set_same known n 1 0 (omega (arith, k.size))
 
-  -- what is known stays known
-  pub known_stays : (known : List ℕ) (m n : ℕ) → m < 128 → Known t known → (n ≡ m) ⊎ (at known n ≢ 0) → at (set known m 1) n ≢ 0
-  known_stays known m n l k h z = by_cases (ℕ_discrete n m)
-      (λ e. omega (arith, z, ap (at (set known m 1)) e ∙ get_or-set_same known m 1 0 (omega (arith, k.size))))
-      (λ e. ⊎_elim e (λ x. x (sym (get_or-set_other known m n 1 0 e) ∙ z)) h)
-
-  pub known_first : Known t (set (replicate 128 0) 0 1)
+  pub known_first : Known t (set (replicate 128 false) 0 true)
   known_first = record {
-    size = length-set none 0 1 ∙ long;
-    root = λ z. omega (arith, get_or-set_same none 0 1 0 (omega (arith, long)), z);
-    reaches = λ n l z. by_cases (ℕ_discrete n 0) (λ e. rw e (reaches_root (up t))) (λ e. absurd (z (get_or-set_other none 0 n 1 0 e ∙ get_or-replicate {A = ℕ} 128 n 0 0 l)));
+    size = length-set none 0 true ∙ long;
+    root = get_or-set_same none 0 true false (omega (arith, long));
+    reaches = λ n l z. by_cases (ℕ_discrete n 0)
+        (λ e. rw e (reaches_root (up t)))
+        (λ e. absurd (false≢true (sym (get_or-replicate {A = Bool} 128 n false false l) ∙ sym (get_or-set_other none 0 n true false e) ∙ z)));
   }
     where
-      none : List ℕ
-      none = replicate 128 0
+      none : List Bool
+      none = replicate 128 false
 
       long : length none ≡ 128
-      long = length-replicate {A = ℕ} 128 0
+      long = length-replicate {A = Bool} 128 false
 
   -- a climb that has come to a node that reaches node 0 began at one
   pub climb_reaches : (n node k : ℕ) → Climbing t n node k → Reaches (up t) node → Reaches (up t) n

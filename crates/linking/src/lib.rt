@@ -1,8 +1,8 @@
 // Rule 3 of SPEC 4: every node in use but node 0 has a parent in use, and all reach node 0.
 #![tactic(auto)]
 
-ghost use Rattle.std.specs.Prelude.{◌≢◌};
-ghost use Rattle.basics.specs.Decide.{Decides, at};
+ghost use Rattle.std.specs.Prelude.{◌≡◌, true, false, get_or};
+ghost use Rattle.basics.specs.Decide.{Decides};
 ghost use Rattle.trees.specs.Trees.{up, Reaches};
 ghost use Rattle.trees.specs.Rules.{Linked};
 ghost use Rattle.tree.specs.Rules.{Parents, Climbs};
@@ -12,13 +12,13 @@ use listing::NodesInUse;
 use trees::Tree;
 
 // Does going up from a node in use reach node 0? It does if it meets a node that is known to; and a path that does has fewer than 128 steps.
-fn reaches(tree: &Tree, known: &[u8], n: usize) -> bool
+fn reaches(tree: &Tree, known: &[bool], n: usize) -> bool
     requires { Climbs tree.now n × Known tree.now known.now }
     ensures { Decides result (Reaches (up tree.now) n) }
 {
     let mut node = n;
     for k in 0..128usize {
-        if known[node] != 0 {
+        if known[node] {
             return true;
         }
         node = usize::from(tree.parent[node]);
@@ -27,17 +27,17 @@ fn reaches(tree: &Tree, known: &[u8], n: usize) -> bool
 }
 
 // A node that reaches node 0 becomes known, with those above it, up to one that is known already.
-fn mark(tree: &Tree, known: &mut [u8], n: usize)
+fn mark(tree: &Tree, known: &mut [bool], n: usize)
     requires { Climbs tree.now n × Reaches (up tree.now) n
         × Known tree.now known.old }
-    ensures { Known tree.now known.new × (at known.new n ≢ 0) }
+    ensures { Known tree.now known.new × (get_or known.new n false ≡ true) }
 {
     let mut m = n;
     for steps in 0..128usize {
-        if known[m] != 0 {
+        if known[m] {
             return;
         }
-        known[m] = 1;
+        known[m] = true;
         m = usize::from(tree.parent[m]);
     }
 }
@@ -47,8 +47,8 @@ fn all_reach(nodes: &NodesInUse) -> bool
     requires { Parents nodes.now.tree.now }
     ensures { Decides result (AllReach nodes.now.tree.now) }
 {
-    let mut known = [0u8; 128];
-    known[0] = 1;
+    let mut known = [false; 128];
+    known[0] = true;
     for n in nodes.used {
         let n = usize::from(*n);
         if !reaches(nodes.tree, &known, n) {

@@ -21,41 +21,47 @@ pub struct Row(pub usize);
 #[derive(Clone, Copy, PartialEq, Eq)]
 pub struct Place(pub usize);
 
-// Is each measure within its limits?
-pub fn within(size: Size) -> bool
-    ensures { Decides result (Within size) }
-{
-    (1..=1024).contains(&size.rows)
-        && (1..=1024).contains(&size.width)
-        && (size.rows..=4096).contains(&size.places)
+impl Size {
+    // Is each measure within its limits?
+    pub fn within(self) -> bool
+        ensures { Decides result (Within self) }
+    {
+        (1..=1024).contains(&self.rows)
+            && (1..=1024).contains(&self.width)
+            && (self.rows..=4096).contains(&self.places)
+    }
 }
 
-// Is there such a row?
-pub fn has_row(rows: usize, row: Row) -> bool
-    ensures { Decides result (row.0 < rows) }
-{
-    row.0 < rows
+impl Row {
+    // Is it one of so many rows?
+    pub fn is_below(self, rows: usize) -> bool
+        ensures { Decides result (self.0 < rows) }
+    {
+        self.0 < rows
+    }
+
+    // Where the origin's row is kept for good.
+    pub fn home(self) -> Place
+        ensures { result.0 ≡ self.0 }
+    {
+        Place(self.0)
+    }
+
+    // Its number as the table holds it.
+    pub fn number(self) -> u16
+        requires { self.0 < 1024 }
+        ensures { result ≡ self.0 }
+    {
+        self.0 as u16
+    }
 }
 
-// Where the origin's row is kept for good.
-pub fn home(row: Row) -> Place
-    ensures { result.0 ≡ row.0 }
-{
-    Place(row.0)
-}
-
-// A row's number as the table holds it.
-pub fn row_number(row: Row) -> u16
-    requires { row.0 < 1024 }
-    ensures { result ≡ row.0 }
-{
-    row.0 as u16
-}
-
-// The first byte of a place.
-pub fn offset(width: usize, place: Place) -> usize
-    requires { (width ≤ 1024) × (place.0 < 4096) }
-    ensures { result ≡ begins_at width place.0 }
-{
-    place.0 * width
+impl Place {
+    // Its first byte, where a place has `width`.
+    pub fn offset(self, width: usize) -> usize
+        requires { (width ≤ 1024) × (self.0 < 4096) }
+        ensures { result ≡ begins_at width self.0 }
+    {
+        self.0 * width
+    }
 }

@@ -37,7 +37,7 @@ pub fn open(
 ) -> Result<Tree, Refusal>
     ensures { Opening size places.old node.old row.old (answer_of result) (left_of no_tree result) places.new node.new row.new }
 {
-    if !measures::within(size) {
+    if !size.within() {
         return Err(Refusal::BadSize);
     }
     let entries = size.places - size.rows;

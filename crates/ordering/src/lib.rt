@@ -4,13 +4,14 @@
 ghost use Rattle.std.specs.Prelude.{◌≡◌, true, false, ℕ, ◌≤◌, ◌<◌, length, take, IfSome};
 ghost use Rattle.basics.specs.Decide.{Decides, at};
 ghost use Rattle.table.specs.Rules.{Nodes};
-ghost use Rattle.ordering.specs.Ordered.{Follows, Ordered, Noting};
+ghost use Rattle.ordering.specs.Ordered.{Follows, Ordered, is_noted, Noting};
 
 use guessing::Children;
 use listing::NodesInUse;
 use trees::Tree;
 
 // Nodes side by side, the first ones of 128, and for each node the position behind its children.
+// They are arrays of node numbers: on board there is no heap, and memory is fixed.
 #[derive(Clone, Copy)]
 pub struct Queue {
     pub node: [u8; 128],
@@ -62,8 +63,8 @@ pub fn lined_up(kin: &Children) -> Queue {
 }
 
 // Does each node of a list come after its parent, and before the end of its parent's children? They are noted; if one does not, what is noted is left free.
-fn parents_first(parent: &[u8; 128], order: &[u8], end: &[u8; 128], seen: &mut [u8]) -> bool
-    requires { (length seen.old ≡ 128) × ((n : ℕ) → at seen.old n ≡ 0) }
+fn parents_first(parent: &[u8; 128], order: &[u8], end: &[u8; 128], seen: &mut [bool]) -> bool
+    requires { (length seen.old ≡ 128) × ((n : ℕ) → is_noted seen.old n ≡ false) }
     ensures { (length seen.new ≡ 128) × (result ≡ true → Noting parent.now order.now end.now seen.new (length order.now))
         × (result ≡ false → ((j : ℕ) → j < length order.now → Follows parent.now order.now end.now j) → ⊥) }
 {
@@ -80,25 +81,25 @@ fn parents_first(parent: &[u8; 128], order: &[u8], end: &[u8; 128], seen: &mut [
             return false;
         }
         if p != 0 {
-            if seen[p] != 1 {
+            if !seen[p] {
                 return false;
             }
             if j >= usize::from(end[p]) {
                 return false;
             }
         }
-        seen[c] = 1;
+        seen[c] = true;
     }
     true
 }
 
 // Are all nodes of a list noted?
-fn all_noted(used: &[u8], seen: &[u8]) -> bool
+fn all_noted(used: &[u8], seen: &[bool]) -> bool
     requires { (length seen.now ≡ 128) × ((i : ℕ) → i < length used.now → at used.now i < 128) }
-    ensures { Decides result ((i : ℕ) → i < length used.now → at seen.now (at used.now i) ≡ 1) }
+    ensures { Decides result ((i : ℕ) → i < length used.now → is_noted seen.now (at used.now i) ≡ true) }
 {
     for n in used {
-        if seen[usize::from(*n)] != 1 {
+        if !seen[usize::from(*n)] {
             return false;
         }
     }
@@ -109,7 +110,7 @@ fn all_noted(used: &[u8], seen: &[u8]) -> bool
 pub fn ordered(nodes: &NodesInUse, order: &[u8], end: &[u8; 128]) -> bool
     ensures { Decides result (Ordered nodes.now.tree.now order.now end.now) }
 {
-    let mut seen = [0u8; 128];
+    let mut seen = [false; 128];
     parents_first(&nodes.tree.parent, order, end, &mut seen) && all_noted(nodes.used, &seen)
 }
 

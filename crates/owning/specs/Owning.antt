@@ -3,6 +3,7 @@ use Rattle.std.specs.Prelude.{◌≡◌, List, ℕ, ◌*◌, ◌<◌, length}
 use Rattle.std.proofs.Math.Option.{Option, none, some}
 use Rattle.trees.specs.declared.Tree.{Tree}
 use Rattle.records.specs.Records.{Records}
+use Rattle.records.specs.declared.Records.{Records as Lent}
 use Rattle.trees.specs.Trees.{Alive}
 use Rattle.records.specs.Sound.{Sound}
 use Rattle.edits.specs.Edits.{split}
@@ -17,6 +18,10 @@ pub record Held : Type 0 where
 
 abbrev pub held : Tree → List ℕ → List ℕ → List ℕ → Held
 held tree node row places = record { tree = tree; node = node; row = row; places = places }
+
+-- of the records as they are lent, and the places
+abbrev pub held_in : Lent → List ℕ → Held
+held_in z places = held z.tree z.node.now z.row.now places
 
 -- a write that has passed every test but the last
 pub record Writable (z : Records) (places : List ℕ) (v r : ℕ) (bs : List ℕ) : Type 0 where

@@ -2,20 +2,24 @@
 #![tactic(auto)]
 
 ghost use Rattle.std.specs.Prelude.{◌≡◌, ℕ, ◌<◌, length, set};
+ghost use Rattle.records.specs.Lent.{SameLent};
 ghost use Rattle.trees.specs.Trees.{nodes_used, Child};
 ghost use Rattle.owning.specs.Owning.{parted_tree, parted_node};
 
 use measures::Row;
 use nodes::Stand;
+use records::Records;
 use trees::Tree;
 
 // An entry of the table gets a node and a row.
-pub fn enter(node: &mut [u8], row: &mut [u16], i: usize, n: usize, r: Row)
-    requires { (i < length node.old) × (i < length row.old) × (n < 128) × (r.0 < 1024) }
-    ensures { (node.new ≡ set node.old i n) × (row.new ≡ set row.old i r.0) }
+pub fn enter(records: &mut Records<'_>, i: usize, n: usize, r: Row)
+    requires { (i < length records.old.node.now) × (i < length records.old.row.now) × (n < 128) × (r.0 < 1024) }
+    ensures same { SameLent records.old records.new }
+    ensures kept { records.new.tree ≡ records.old.tree }
+    ensures entered { (records.new.node.now ≡ set records.old.node.now i n) × (records.new.row.now ≡ set records.old.row.now i r.0) }
 {
-    node[i] = n as u8;
-    row[i] = measures::row_number(r);
+    records.node[i] = n as u8;
+    records.row[i] = r.number();
 }
 
 // The tree, and the node of it that is to have an own row: a node without a child as it stands; another becomes a ghost, and a new child takes its tag.

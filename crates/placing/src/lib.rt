@@ -7,20 +7,12 @@ ghost use Rattle.placing.specs.Placing.{put_at, Inside, Lies};
 
 use measures::Place;
 
-// Every number of `to` becomes that of `from`, which is as long.
-pub fn fill(to: &mut [u8], from: &[u8])
-    requires { length to.old ≡ length from.now }
-    ensures { to.new ≡ from.now }
-{
-    to.copy_from_slice(from);
-}
-
 // The bytes of a place, where they lie.
 pub fn part(places: &[u8], width: usize, place: Place) -> &[u8]
     requires { Inside places.now width place.0 }
     ensures { (result.now ≡ bytes_at width places.now place.0) × Lies places.entry.ref_ptr (begins_at width place.0) result.ref_ptr }
 {
-    let start = measures::offset(width, place);
+    let start = place.offset(width);
     &places[start..start + width]
 }
 
@@ -29,6 +21,6 @@ pub fn put(places: &mut [u8], width: usize, place: Place, bytes: &[u8])
     requires { Inside places.old width place.0 × (length bytes.now ≡ width) }
     ensures { places.new ≡ put_at width places.old place.0 bytes.now }
 {
-    let from = measures::offset(width, place);
+    let from = place.offset(width);
     places[from..from + width].copy_from_slice(bytes);
 }

@@ -5,7 +5,10 @@ ghost use Rattle.std.specs.Prelude.{◌≤◌, length};
 ghost use Rattle.laying.specs.Laid.{Lays};
 ghost use Rattle.lines.specs.Printed.{printed, served};
 
+use answers::Refusal;
+use laying::Writer;
 use measures::Size;
+use records::Records;
 
 // What is printed for a stream. A stream of over 4,096 bytes is refused as a whole.
 pub fn print(stream: &[u8], out: &mut [u8]) -> usize
@@ -13,7 +16,9 @@ pub fn print(stream: &[u8], out: &mut [u8]) -> usize
     ensures { Lays out.old 0 (printed stream.now) out.new result }
 {
     if stream.len() > 4096 {
-        return text::plain_line(out, 0, 0, 8);
+        let mut text = Writer { bytes: out, end: 0 };
+        text::plain_line(&mut text, 0, usize::from(Refusal::LongStream.number()));
+        return text.end;
     }
     serve(stream, out)
 }
@@ -32,8 +37,14 @@ fn serve(stream: &[u8], out: &mut [u8]) -> usize
     let mut node = [0u8; 2];
     let mut row = [0u16; 2];
     let tree = opening::open(size, &mut places, &mut node, &mut row).unwrap();
-    match running::run(size, tree, &mut node, &mut row, &mut places, stream, out) {
-        Ok(ran) => ran.end,
+    let mut records = Records {
+        size,
+        tree,
+        node: &mut node,
+        row: &mut row,
+    };
+    match running::run(&mut records, &mut places, stream, out) {
+        Ok(end) => end,
         Err(_) => 0,
     }
 }

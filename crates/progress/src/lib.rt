@@ -1,59 +1,51 @@
-// A run between two commands: how it goes on behind a call and its line, and how it ends. For crates/running.
+// A run between two commands: how it goes on behind a call and its line, and how it ends.
 #![tactic(auto)]
 
 ghost use Rattle.std.specs.Prelude.{◌≡◌, ◌≤◌};
-ghost use Rattle.progress.specs.Replying.{onward, stopped, Room, Stopped};
+ghost use Rattle.progress.specs.Replying.{onward, stopped, Stopped, progress_of, SameRun, SameHeld, HasLine};
 
-use measures::Size;
-use trees::Tree;
+use laying::Writer;
+use records::Records;
 
-// A run between two commands: the store's size and tree, the end of the text so far, the next line's number, and whether it goes on.
-#[derive(Clone, Copy)]
-pub struct Progress {
-    pub size: Size,
-    pub tree: Tree,
-    pub end: usize,
+// A run between two commands: the records and the places as they are lent, the text so far, the next line's number, and whether it goes on.
+#[derive(Drop)]
+pub struct Run<'a, 'b, 'c> {
+    pub records: &'a mut Records<'b>,
+    pub places: &'a mut [u8],
+    pub text: &'a mut Writer<'c>,
     pub line: usize,
     pub going: bool,
 }
 
-// The run behind a call that left a tree, and whose line ends at `end`.
-pub fn on(run: Progress, tree: Tree, end: usize) -> Progress
-    requires { run.line ≤ 4097 }
-    ensures { result ≡ onward run tree end }
-{
-    let size = run.size;
-    let line = run.line + 1;
-    Progress {
-        size,
-        tree,
-        end,
-        line,
-        going: true,
+impl Run<'_, '_, '_> {
+    // It goes on, behind a call and its line.
+    pub fn goes_on(&mut self)
+        requires { self.old.line ≤ 4097 }
+        ensures same { SameRun self.old self.new }
+        ensures goes { progress_of self.new ≡ onward (progress_of self.old) self.old.records.now.tree self.old.text.now.end }
+        ensures held { SameHeld self.old self.new }
+    {
+        self.line += 1;
+        self.going = true;
     }
-}
 
-// The run at its end.
-pub fn over(run: Progress, end: usize) -> Progress
-    ensures { result ≡ stopped run end }
-{
-    let size = run.size;
-    let tree = run.tree;
-    let line = run.line;
-    Progress {
-        size,
-        tree,
-        end,
-        line,
-        going: false,
+    // It is over.
+    pub fn ends(&mut self)
+        ensures same { SameRun self.old self.new }
+        ensures ends { progress_of self.new ≡ stopped (progress_of self.old) self.old.text.now.end }
+        ensures held { SameHeld self.old self.new }
+    {
+        self.going = false;
     }
-}
 
-// The last line of a stream that ends badly.
-pub fn stop(run: Progress, number: u8, out: &mut [u8]) -> Progress
-    requires { Room run 12 out.old }
-    ensures { Stopped run number out.old result out.new }
-{
-    let end = text::plain_line(out, run.end, run.line, usize::from(number));
-    over(run, end)
+    // The last line of a stream that ends badly.
+    pub fn stop(&mut self, number: u8)
+        requires { HasLine self.old 12 }
+        ensures same { SameRun self.old self.new }
+        ensures stops { Stopped (progress_of self.old) number self.old.text.now.bytes.now (progress_of self.new) self.new.text.now.bytes.now }
+        ensures held { (self.new.records.now ≡ self.old.records.now) × (self.new.places.now ≡ self.old.places.now) }
+    {
+        text::plain_line(self.text, self.line, usize::from(number));
+        self.ends();
+    }
 }

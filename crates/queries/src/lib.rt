@@ -3,13 +3,13 @@
 
 ghost use Rattle.std.specs.Prelude.{IfOk};
 ghost use Rattle.answers.specs.Results.{answer_of};
-ghost use Rattle.records.specs.Records.{records_of};
+ghost use Rattle.records.specs.Lent.{seen};
 ghost use Rattle.reads.specs.Reads.{ReadEnds, ReadPart};
 ghost use Rattle.queries.specs.Lent.{bytes_of, sharers_of};
 
 use answers::Refusal;
-use measures::{Row, Size};
-use trees::{Entries, Tree};
+use measures::Row;
+use records::View;
 
 // A row where it lies in the places, and how many living versions share it.
 #[derive(Clone, Copy)]
@@ -19,42 +19,26 @@ pub struct Lent<'a> {
 }
 
 // Refusals: 20, 2, 3, 21.
-pub fn read<'a>(
-    size: Size,
-    tree: Tree,
-    node: &[u8],
-    row: &[u16],
-    places: &'a [u8],
-    tag: u16,
-    r: Row,
-) -> Result<Lent<'a>, Refusal>
-    ensures ends { ReadEnds (records_of size tree node.now row.now) places.now tag r.0 (answer_of result) (bytes_of result) (sharers_of result) }
-    ensures part { IfOk result (λ lent. ReadPart (records_of size tree node.now row.now) places.now tag r.0 places.entry.ref_ptr lent.bytes.ref_ptr) }
+pub fn read<'a>(view: &View, places: &'a [u8], tag: u16, r: Row) -> Result<Lent<'a>, Refusal>
+    ensures ends { ReadEnds (seen view.now) places.now tag r.0 (answer_of result) (bytes_of result) (sharers_of result) }
+    ensures part { IfOk result (λ lent. ReadPart (seen view.now) places.now tag r.0 places.entry.ref_ptr lent.bytes.ref_ptr) }
 {
-    if !soundness::sound(size, &tree, node, row) {
+    if !soundness::sound(view) {
         return Err(Refusal::Unsound);
     }
+    let size = view.size;
     if places.len() != size.places * size.width {
         return Err(Refusal::BadLength);
     }
-    if !measures::has_row(size.rows, r) {
+    if !r.is_below(size.rows) {
         return Err(Refusal::BadRow);
     }
-    let Some(n) = tree::version(&tree, tag) else {
+    let Some(n) = tree::version(view.tree, tag) else {
         return Err(Refusal::UnknownTag);
     };
-    let seen = sharing::lookup(
-        &tree,
-        &Entries {
-            rows: size.rows,
-            node,
-            row,
-        },
-        n,
-        r,
-    );
+    let looked = sharing::lookup(view.tree, &view.entries(), n, r);
     Ok(Lent {
-        bytes: placing::part(places, size.width, seen.place),
-        sharers: seen.sharers,
+        bytes: placing::part(places, size.width, looked.place),
+        sharers: looked.sharers,
     })
 }

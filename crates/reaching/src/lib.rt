@@ -20,12 +20,12 @@ fn another(s: u8, n: usize, v: usize) -> bool
     s == 1 && n != v
 }
 
-// Does a node meet what its parent meets? So it does if it has no mark at row r; `above` is 1 if the parent meets it.
-fn meets_too(above: u8, marks: &[u8], c: usize, r: Row) -> bool
+// Does a node meet what its parent meets? So it does if it has no mark at row r; `above` tells whether the parent meets it.
+fn meets_too(above: bool, marks: &[u8], c: usize, r: Row) -> bool
     requires { MarkedRow marks.now r.0 × (c < 128) }
-    ensures { Decides result ((above ≡ 1) × (has marks.now (slot c r.0) ≡ false)) }
+    ensures { Decides result ((above ≡ true) × (has marks.now (slot c r.0) ≡ false)) }
 {
-    above == 1 && !bits::has(marks, table::slot(c, r))
+    above && !bits::has(marks, table::slot(c, r))
 }
 
 // Does a living version other than the one at node v read node g's own row r? Each node that meets g is noted, if its parent is and it has no mark. Past the children of those
@@ -45,8 +45,8 @@ pub fn others_reach(
     if another(tree.state[g], g, v) {
         return true;
     }
-    let mut reach = [0u8; 128];
-    reach[g] = 1;
+    let mut reach = [false; 128];
+    reach[g] = true;
     let mut far = usize::from(end[g]);
     for (j, c) in order.iter().enumerate() {
         if far <= j {
@@ -58,55 +58,70 @@ pub fn others_reach(
             if another(tree.state[c], c, v) {
                 return true;
             }
-            reach[c] = 1;
+            reach[c] = true;
             far = far.max(usize::from(end[c]));
         }
     }
     false
 }
 
+// The version at node v goes: the tree with it, the tree without it, of which only a guess is made, the nodes in an order where one is known,
+// their children as guessed, the marks of the table, and whether v has no child.
+#[derive(Clone, Copy)]
+pub struct Removal<'a> {
+    pub tree: &'a Tree,
+    pub without: &'a Tree,
+    pub order: &'a Option<Queue>,
+    pub kin: &'a Children,
+    pub marks: &'a [u8],
+    pub v: usize,
+    pub leaf: bool,
+    pub ghost childless: { leaf ≡ true → Childless tree.now v },
+}
+
 // Does any living version other than the one at node v read it? The nodes are passed in their order, where that is known; else all living versions are asked.
-fn others(tree: &Tree, order: &Option<Queue>, marks: &[u8], v: usize, g: usize, r: Row) -> bool
-    requires { Seeking tree.now marks.now g r.0 × (g < 128) × IfSome order.now (λ q. Ordered tree.now (take q.count q.node) q.end) }
-    ensures { Decides result (OthersMeet tree.now marks.now v g r.0) }
+fn others(removal: &Removal, g: usize, r: Row) -> bool
+    requires { Seeking removal.now.tree.now removal.now.marks.now g r.0 × (g < 128)
+        × IfSome removal.now.order.now (λ q. Ordered removal.now.tree.now (take q.count q.node) q.end) }
+    ensures { Decides result (OthersMeet removal.now.tree.now removal.now.marks.now removal.now.v g r.0) }
 {
+    let order = removal.order;
     match order {
         Some(queue) => {
-            others_reach(tree, &queue.node[..queue.count], &queue.end, marks, v, g, r)
+            let nodes = &queue.node[..queue.count];
+            others_reach(
+                removal.tree,
+                nodes,
+                &queue.end,
+                removal.marks,
+                removal.v,
+                g,
+                r,
+            )
         }
-        None => asking::others_read(tree, marks, v, g, r),
+        None => asking::others_read(removal.tree, removal.marks, removal.v, g, r),
     }
 }
 
 // Does the version at node v read node g's own row r, and no other? Of a node without a child it is known. Else a likely other reader is asked first, one below g that is alive in the tree
 // without v. If it is none, and v itself reads it, the others are asked.
-pub fn alone(
-    tree: &Tree,
-    without: &Tree,
-    order: &Option<Queue>,
-    kin: &Children,
-    marks: &[u8],
-    v: usize,
-    leaf: bool,
-    g: usize,
-    r: Row,
-) -> bool
-    requires { Asking tree.now marks.now v g r.0 × (leaf ≡ true → Childless tree.now v)
-        × IfSome order.now (λ q. Ordered tree.now (take q.count q.node) q.end) }
-    ensures { Decides result (MeetsAlone tree.now marks.now v g r.0) }
+pub fn alone(removal: &Removal, g: usize, r: Row) -> bool
+    requires { Asking removal.now.tree.now removal.now.marks.now removal.now.v g r.0
+        × IfSome removal.now.order.now (λ q. Ordered removal.now.tree.now (take q.count q.node) q.end) }
+    ensures { Decides result (MeetsAlone removal.now.tree.now removal.now.marks.now removal.now.v g r.0) }
 {
     if g == 0 {
         return false;
     }
-    if g == v && leaf {
+    if g == removal.v && removal.leaf {
         return true;
     }
-    let n = guessing::reader(without, kin, marks, g, r);
-    if asking::other_reads(tree, marks, n, v, g, r) {
+    let n = guessing::reader(removal.without, removal.kin, removal.marks, g, r);
+    if asking::other_reads(removal.tree, removal.marks, n, removal.v, g, r) {
         return false;
     }
-    if !table::meets(tree, marks, v, g, r) {
+    if !table::meets(removal.tree, removal.marks, removal.v, g, r) {
         return false;
     }
-    !others(tree, order, marks, v, g, r)
+    !others(removal, g, r)
 }

@@ -1,4 +1,4 @@
-// A reader holds a stream and the position of its next command. Its functions take it apart.
+// A reader holds a stream and the position of its next command. Its methods take it apart.
 #![tactic(auto)]
 
 ghost use Rattle.std.specs.Prelude.{◌≡◌, ◌≤◌};
@@ -13,24 +13,26 @@ pub struct Reader<'a> {
     pub at: usize,
 }
 
-// The reader at a stream's first command.
-pub fn make(stream: &[u8]) -> Reader<'_>
-    ensures { (result.stream ≡ stream.entry) × (result.at ≡ 0) }
-{
-    Reader { stream, at: 0 }
-}
+impl<'a> Reader<'a> {
+    // The reader at a stream's first command.
+    pub fn new(stream: &'a [u8]) -> Reader<'a>
+        ensures { (result.stream ≡ stream.entry) × (result.at ≡ 0) }
+    {
+        Reader { stream, at: 0 }
+    }
 
-// The reader at another position.
-pub fn moved(reader: Reader<'_>, at: usize) -> Reader<'_>
-    ensures { (result.stream ≡ reader.entry.stream) × (result.at ≡ at) }
-{
-    Reader { at, ..reader }
-}
+    // The reader at another position.
+    pub fn moved(self, at: usize) -> Reader<'a>
+        ensures { (result.stream ≡ self.entry.stream) × (result.at ≡ at) }
+    {
+        Reader { at, ..self }
+    }
 
-// The reader's next command.
-pub fn command_here(reader: Reader<'_>, width: usize) -> Step
-    requires { width ≤ 1024 }
-    ensures { result ≡ step_at width reader.entry.stream.now reader.entry.at }
-{
-    decoding::next(reader.stream, reader.at, width)
+    // The reader's next command.
+    pub fn command(self, width: usize) -> Step
+        requires { width ≤ 1024 }
+        ensures { result ≡ step_at width self.entry.stream.now self.entry.at }
+    {
+        decoding::next(self.stream, self.at, width)
+    }
 }

@@ -1,12 +1,13 @@
 // The records, laid into their bytes.
 #![tactic(auto)]
 
-ghost use Rattle.std.specs.Prelude.{◌≡◌, [], ◌∷◌, ◌+◌, ◌*◌, ◌≤◌, length};
+ghost use Rattle.std.specs.Prelude.{◌≡◌, [], ◌∷◌, length};
 ghost use Rattle.measures.specs.Measures.{Within};
 ghost use Rattle.records.specs.Records.{records_of};
-ghost use Rattle.laying.specs.Laid.{Lays};
-ghost use Rattle.layout.specs.Layout.{tree_bytes, table_bytes, stored, entries, records_size, size_at, nodes_at, rows_at, Fits};
+ghost use Rattle.laying.specs.Writing.{HasRoom, Adds};
+ghost use Rattle.layout.specs.Layout.{tree_bytes, stored, entries, size_at, nodes_at, rows_at, Fits};
 
+use laying::Writer;
 use layout::{STATES_AT, TABLE_AT};
 use measures::Size;
 use trees::Tree;
@@ -20,13 +21,13 @@ pub fn head(size: Size) -> [u16; 3]
 }
 
 // The tree.
-fn lay_tree(records: &mut [u8], at: usize, tree: Tree) -> usize
-    requires { at + 512 ≤ length records.old }
-    ensures { Lays records.old at (tree_bytes tree) records.new result × (result ≡ at + 512) }
+fn lay_tree(out: &mut Writer<'_>, tree: Tree)
+    requires { HasRoom out.old 512 }
+    ensures { Adds out.old (tree_bytes tree) out.new }
 {
-    let a = laying::lay(records, at, &tree.state);
-    let b = laying::lay(records, a, &tree.parent);
-    laying::lay_numbers(records, b, &tree.tag)
+    out.lay(&tree.state);
+    out.lay(&tree.parent);
+    out.lay_numbers(&tree.tag);
 }
 
 // The tree anew; all else is as it was.
@@ -34,7 +35,11 @@ pub fn renew_tree(records: &mut [u8], tree: Tree)
     requires { Fits records.old }
     ensures { records.new ≡ stored (records_of (size_at records.old) tree (nodes_at records.old) (rows_at records.old)) }
 {
-    lay_tree(records, STATES_AT, tree);
+    let mut out = Writer {
+        bytes: records,
+        end: STATES_AT,
+    };
+    lay_tree(&mut out, tree);
 }
 
 // The tree and the rows anew; the measures and the nodes are as they lie there.
@@ -42,7 +47,11 @@ pub fn renew(records: &mut [u8], tree: Tree, row: &[u16])
     requires { Fits records.old × (length row.now ≡ entries (size_at records.old)) }
     ensures { records.new ≡ stored (records_of (size_at records.old) tree (nodes_at records.old) row.now) }
 {
-    lay_tree(records, STATES_AT, tree);
-    let rows = TABLE_AT + row.len();
-    laying::lay_numbers(records, rows, row);
+    let mut out = Writer {
+        bytes: records,
+        end: STATES_AT,
+    };
+    lay_tree(&mut out, tree);
+    out.end = TABLE_AT + row.len();
+    out.lay_numbers(row);
 }

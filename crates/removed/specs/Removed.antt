@@ -14,7 +14,7 @@ use Rattle.answers.proofs.Laws.{refusal_passed}
 use Rattle.edits.proofs.Solve.{lives_node}
 use Rattle.deletes.specs.Deleting.{Left, left, delete_tests, delete_verdict, deleted}
 use Rattle.intact.specs.Intact.{Intact}
-use Rattle.intact.specs.Tags.{OriginTag as node_origin}
+use Rattle.intact.specs.Tags.{origin_tag as node_origin}
 use Rattle.removed.specs.RemovedVersion.{removed, removed_whole}
 
 -- all that a delete leaves

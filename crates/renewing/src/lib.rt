@@ -12,8 +12,8 @@ pub fn copy(places: &mut [u8], width: usize, from: Place, to: Place)
     requires { Inside places.old width from.0 × Inside places.old width to.0 }
     ensures { places.new ≡ put_at width places.old to.0 (bytes_at width places.old from.0) }
 {
-    let start = measures::offset(width, from);
-    let dest = measures::offset(width, to);
+    let start = from.offset(width);
+    let dest = to.offset(width);
     places.copy_within(start..start + width, dest);
 }
 

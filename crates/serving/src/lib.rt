@@ -1,38 +1,31 @@
 // One turn of a run: what stands at a position of a stream, and its line.
 #![tactic(auto)]
 
-ghost use Rattle.lines.specs.Turns.{Ready, Turned};
+ghost use Rattle.progress.specs.Replying.{SameRun};
+ghost use Rattle.lines.specs.Turns.{RunReady, RunTurned};
 
 use commands::{Command, Step};
-use progress::Progress;
+use progress::Run;
+use readers::Reader;
 
-// What stands at a position of the stream, and its line. An unknown command, or one that is cut, is the last.
-pub fn serve(
-    run: Progress,
-    step: Step,
-    stream: &[u8],
-    at: usize,
-    node: &mut [u8],
-    row: &mut [u16],
-    places: &mut [u8],
-    out: &mut [u8],
-) -> Progress
-    requires { Ready run step stream.now at out.old }
-    ensures { Turned run node.old row.old places.old stream.now at out.old
-        result node.new row.new places.new out.new step.next }
+// What stands at the reader's position, and its line. An unknown command, or one that is cut, is the last.
+pub fn serve(run: &mut Run<'_, '_, '_>, step: Step, reader: Reader<'_>)
+    requires { RunReady run.old step reader.stream.now reader.at }
+    ensures same { SameRun run.old run.new }
+    ensures turned { RunTurned run.old reader.entry.stream.now reader.entry.at run.new step.next }
 {
     let found = step.command;
-    if commands::changes(found) {
-        return applying::change(run, step, stream, at, node, row, places, out);
+    if found.changes() {
+        return applying::change(run, step, reader);
     }
     match found {
-        Command::Read { tag, row: r } => showing::read(run, node, row, places, tag, r, out),
-        Command::Count => showing::count(run, node, row, out),
-        Command::Unknown => progress::stop(run, step.number, out),
-        Command::Cut => progress::stop(run, step.number, out),
-        Command::Over => progress::over(run, run.end),
-        Command::Snapshot { .. } => run,
-        Command::Write { .. } => run,
-        Command::Delete { .. } => run,
+        Command::Read { tag, row: r } => showing::read(run, tag, r),
+        Command::Count => showing::count(run),
+        Command::Unknown => run.stop(step.number),
+        Command::Cut => run.stop(step.number),
+        Command::Over => run.ends(),
+        Command::Snapshot { .. } => {}
+        Command::Write { .. } => {}
+        Command::Delete { .. } => {}
     }
 }

@@ -8,7 +8,7 @@ ghost use Rattle.lines.specs.Printed.{printed};
 use std::io;
 use std::io::{Read, Write};
 
-// Reads until the buffer is full, the input ends or a read fails, and says how many bytes were read.
+// Reads until the buffer is full, the input ends or a read fails. How many bytes were read is told by the last argument, since that holds of a read that fails, too.
 fn read_full<R: Read>(from: &mut R, input: &mut [u8], count: &mut usize) -> io::Result<()>
     ensures within { count.new ≤ length input.new }
     ensures bytes { Consumes (R.remaining from.old) (R.remaining from.new) (take count.new input.new) }

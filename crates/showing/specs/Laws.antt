@@ -1,6 +1,6 @@
 -- A row that is read is short; then a call that asks, with its line, whose number is the one that the call answered. Assumes nothing.
 use Rattle.std.specs.Prelude.{◌≡◌, ◌≢◌, List, [], ◌∷◌, ℕ, ◌≤◌, length, drop}
-use Rattle.std.proofs.Common.{sym, ◌∙◌, arith, length-take}
+use Rattle.std.proofs.Common.{refl, sym, arith, length-take}
 use Rattle.std.proofs.Math.Logic.{by_cases}
 use Rattle.std.proofs.Math.Option.{Option, none, some}
 use Rattle.std.proofs.Math.Decide.{dec_le}
@@ -19,7 +19,7 @@ use Rattle.text.specs.Text.{line, dash, pair_text, row_text, shown}
 use Rattle.laying.specs.Laid.{Lays}
 use Rattle.laying.specs.Laws.{lays_as}
 use Rattle.text.specs.Laws.{shown_refused, shown_row, shown_counts, pair_most, row_most}
-use Rattle.progress.specs.Replying.{Replied, Replies}
+use Rattle.progress.specs.Replying.{Replied}
 
 -- A read hands out a row's bytes at most
 
@@ -45,43 +45,43 @@ read_most z places tag r n {bs = bs} e = by_cases (dec_le (length bs) z.size.wid
     let nothing : bs ≡ [] = same_bytes (e.unsound bad) in
     rw nothing (omega arith))
 
--- Calls and their lines
+-- Calls and their lines, of the records as they are seen
 
 module _ {k from to : ℕ} {out out' : List ℕ} where
-  pub count_refused : (z : Records) {n w u a : ℕ} → w ≡ n → w ≢ 0 → CountEnds z n u a → Lays out from (line k w dash) out' to → Replies z (one count) k out from z out' to
-  count_refused z {n = n} {u = u} {a = a} e f s l = let d = shown_refused (counted n u a) (λ z. f (e ∙ z)) in λ places. record {
+  pub count_refused : {y z : Records} {places : List ℕ} {n u a : ℕ} → y ≡ z → n ≢ 0 → CountEnds y n u a → Lays out from (line k n dash) out' to → Replied z places (one count) k out from z places out' to
+  count_refused {n = n} {u = u} {a = a} e f s l = let d = shown_refused (counted n u a) f in record {
     hands = counted n u a;
-    ends = count_ends s;
-    lays = lays_as (rw (e, d)) l;
+    ends = count_ends (rw e at s);
+    lays = lays_as (rw d) l;
     short = rw d (omega arith);
   }
 
-  pub count_replied : (z : Records) {n w u a : ℕ} → w ≡ n → w ≡ 0 → CountEnds z n u a → Lays out from (line k 0 (pair_text u a)) out' to → Replies z (one count) k out from z out' to
-  count_replied z {n = n} {u = u} {a = a} e f s l = let g = sym e ∙ f in let d : shown (counted n u a) ≡ pair_text u a = rw g (shown_counts u a) in λ places. record {
-    hands = counted n u a;
-    ends = count_ends s;
-    lays = lays_as (rw (d, g)) l;
+  pub count_replied : {y z : Records} {places : List ℕ} {u a : ℕ} → y ≡ z → CountEnds y 0 u a → Lays out from (line k 0 (pair_text u a)) out' to → Replied z places (one count) k out from z places out' to
+  count_replied {u = u} {a = a} e s l = let d : shown (counted 0 u a) ≡ pair_text u a = shown_counts u a in record {
+    hands = counted 0 u a;
+    ends = count_ends (rw e at s);
+    lays = lays_as (rw d) l;
     short = rw d (omega (arith, pair_most u a));
   }
 
-  -- a read, of row q; w and v are the numbers that the line has
-  pub read_refused : (z : Records) (places : List ℕ) {tag q x n w u : ℕ} {bs : List ℕ} → x ≡ q → ReadEnds z places tag x n bs u → w ≡ n → w ≢ 0 → Lays out from (line k w dash) out' to
+  -- a read of row q
+  pub read_refused : {z : Records} {places : List ℕ} {tag q x n u : ℕ} {bs : List ℕ} → x ≡ q → n ≢ 0 → ReadEnds z places tag x n bs u → Lays out from (line k n dash) out' to
       → Replied z places (one (read tag q)) k out from z places out' to
-  read_refused z places {n = n} {u = u} {bs = bs} h s e f l = let d = shown_refused (handed n bs (u ∷ [])) (λ z. f (e ∙ z)) in rw (sym h) (record {
+  read_refused {n = n} {u = u} {bs = bs} h f s l = let d = shown_refused (handed n bs (u ∷ [])) f in rw (sym h) (record {
     hands = handed n bs (u ∷ []);
     ends = read_ends s;
-    lays = lays_as (rw (e, d)) l;
+    lays = lays_as (rw d) l;
     short = rw d (omega arith);
   })
 
-  pub read_replied : (z : Records) (places : List ℕ) {tag q x n w u v : ℕ} {bs : List ℕ} → x ≡ q → ReadEnds z places tag x n bs u → w ≡ n → w ≡ 0 → Lays out from (line k 0 (row_text bs v)) out' to → v ≡ u
+  pub read_replied : {y z : Records} {places : List ℕ} {tag q u : ℕ} {bs : List ℕ} → y ≡ z → ReadEnds y places tag q 0 bs u → Lays out from (line k 0 (row_text bs u)) out' to
       → Replied z places (one (read tag q)) k out from z places out' to
-  read_replied z places {tag = tag} {x = x} {n = n} {u = u} {v = v} {bs = bs} h s e f l m =
-      let g = sym e ∙ f in
-      let d : shown (handed n bs (u ∷ [])) ≡ row_text bs v = rw (g, m) (shown_row bs u (read_some z places tag x s g)) in
-      rw (sym h) (record {
-        hands = handed n bs (u ∷ []);
+  read_replied {z = z} {places = places} {tag = tag} {q = q} {u = u} {bs = bs} e t l =
+      let s : ReadEnds z places tag q 0 bs u = rw e at t in
+      let d : shown (handed 0 bs (u ∷ [])) ≡ row_text bs u = shown_row bs u (read_some z places tag q s refl) in
+      record {
+        hands = handed 0 bs (u ∷ []);
         ends = read_ends s;
-        lays = lays_as (rw (d, g)) l;
-        short = rw d (omega (arith, row_most bs v, read_most z places tag x n s));
-      })
+        lays = lays_as (rw d) l;
+        short = rw d (omega (arith, row_most bs u, read_most z places tag q 0 s));
+      }

@@ -1,62 +1,82 @@
 // A command's call that asks, with its line: what was counted or read, or a dash if it was refused.
 #![tactic(auto)]
 
-ghost use Rattle.std.specs.Prelude.{◌≡◌};
+ghost use Rattle.std.specs.Prelude.{◌≡◌, [], IfOk, IfErr};
+ghost use Rattle.records.specs.Lent.{lent};
+ghost use Rattle.reads.specs.Reads.{ReadEnds};
+ghost use Rattle.laying.specs.Writing.{HasRoom};
 ghost use Rattle.answers.specs.Answers.{number};
 ghost use Rattle.laying.specs.Laid.{Lays};
 ghost use Rattle.model.specs.Call.{read, count, one};
-ghost use Rattle.progress.specs.Replying.{line_room, onward, Room, Answered, Answers};
+ghost use Rattle.progress.specs.Replying.{line_room, onward, Replied, progress_of, SameRun, HasLine, RunAnswers};
 ghost use Rattle.text.specs.Text.{line, dash};
 
 use answers::Refusal;
+use laying::Writer;
 use measures::Row;
-use progress::Progress;
+use progress::Run;
+use records::Records;
 
-// The run behind a refusal, and its line.
-fn refused(run: Progress, refusal: Refusal, out: &mut [u8]) -> Progress
-    requires { Room run 12 out.old }
-    ensures goes { result ≡ onward run run.tree result.end }
-    ensures lays { Lays out.old run.end (line run.line (number refusal) dash) out.new result.end }
+// The line of a refusal, behind which the run goes on.
+fn refused(run: &mut Run<'_, '_, '_>, refusal: Refusal)
+    requires { HasLine run.old 12 }
+    ensures same { SameRun run.old run.new }
+    ensures goes { progress_of run.new ≡ onward (progress_of run.old) run.old.records.now.tree run.new.text.now.end }
+    ensures lays { Lays run.old.text.now.bytes.now run.old.text.now.end (line run.old.line (number refusal) dash)
+        run.new.text.now.bytes.now run.new.text.now.end }
+    ensures held { (run.new.records.now ≡ run.old.records.now) × (run.new.places.now ≡ run.old.places.now) }
 {
     let number = usize::from(refusal.number());
-    let end = text::plain_line(out, run.end, run.line, number);
-    progress::on(run, run.tree, end)
+    text::plain_line(run.text, run.line, number);
+    run.goes_on();
 }
 
 // A count, and its line.
-pub fn count(run: Progress, node: &[u8], row: &[u16], out: &mut [u8]) -> Progress
-    requires { Room run 20 out.old }
-    ensures { Answers run node.now row.now (one count) out.old result node.now row.now out.new }
+pub fn count(run: &mut Run<'_, '_, '_>)
+    requires { HasLine run.old 20 }
+    ensures same { SameRun run.old run.new }
+    ensures answers { RunAnswers run.old (one count) run.new }
 {
-    match counting::count(run.size, run.tree, node, row) {
+    match counting::count(&run.records.view()) {
         Ok(c) => {
-            let end = text::count_line(out, run.end, run.line, c.used, c.snapshots);
-            progress::on(run, run.tree, end)
+            text::count_line(run.text, run.line, c.used, c.snapshots);
+            run.goes_on();
         }
-        Err(refusal) => refused(run, refusal, out),
+        Err(refusal) => refused(run, refusal),
     }
 }
 
 // A read of a row by its number in the stream, and its line.
-pub fn read(
-    run: Progress,
-    node: &[u8],
-    row: &[u16],
-    places: &[u8],
-    tag: u16,
-    r: u16,
-    out: &mut [u8],
-) -> Progress
-    requires { Room run (line_room run.size.width) out.old }
-    ensures { Answered run node.now row.now places.now (one (read tag r)) out.old
-        result node.now row.now places.now out.new }
+pub fn read(run: &mut Run<'_, '_, '_>, tag: u16, r: u16)
+    requires { HasLine run.old (line_room run.old.records.now.size.width) }
+    ensures same { SameRun run.old run.new }
+    ensures answers { RunAnswers run.old (one (read tag r)) run.new }
 {
     let r = Row(usize::from(r));
-    match queries::read(run.size, run.tree, node, row, places, tag, r) {
-        Ok(lent) => {
-            let end = text::row_line(out, run.end, run.line, lent.bytes, lent.sharers);
-            progress::on(run, run.tree, end)
-        }
-        Err(refusal) => refused(run, refusal, out),
+    let line = run.line;
+    match show(run.records, run.places, run.text, line, tag, r) {
+        Ok(()) => run.goes_on(),
+        Err(refusal) => refused(run, refusal),
     }
+}
+
+// The line of a row that is read, if it is. What a run lends of its places beside its records can only be lent by `&mut`.
+fn show(
+    records: &Records<'_>,
+    places: &mut [u8],
+    text: &mut Writer<'_>,
+    line: usize,
+    tag: u16,
+    r: Row,
+) -> Result<(), Refusal>
+    requires { HasRoom text.old (line_room records.now.size.width) }
+    ensures kept { places.new ≡ places.old }
+    ensures lent { text.new.bytes.ghost_name ≡ text.old.bytes.ghost_name }
+    ensures shown { IfOk result (λ _. Replied (lent records.now) places.old (one (read tag r.0)) line
+        text.old.bytes.now text.old.end (lent records.now) places.old text.new.bytes.now text.new.end) }
+    ensures refused { IfErr result (λ refusal. ReadEnds (lent records.now) places.old tag r.0 (number refusal) [] 0 × (text.new ≡ text.old)) }
+{
+    let row = queries::read(&records.view(), places, tag, r)?;
+    text::row_line(text, line, row.bytes, row.sharers);
+    Ok(())
 }

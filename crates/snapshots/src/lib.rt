@@ -2,38 +2,32 @@
 #![tactic(auto)]
 
 ghost use Rattle.answers.specs.Results.{answer_of, left_of};
-ghost use Rattle.records.specs.Records.{records_of};
+ghost use Rattle.records.specs.Lent.{seen};
 ghost use Rattle.takes.specs.Taking.{SnapshotEnds};
 
 use answers::Refusal;
-use measures::Size;
+use records::View;
 use trees::Tree;
 
 // Refusals: 20, 4, 21, 22, 23.
-pub fn snapshot(
-    size: Size,
-    tree: Tree,
-    node: &[u8],
-    row: &[u16],
-    source: u16,
-    new: u16,
-) -> Result<Tree, Refusal>
-    ensures { SnapshotEnds (records_of size tree node.now row.now) source new (answer_of result) (left_of tree result) }
+pub fn snapshot(view: &View, source: u16, new: u16) -> Result<Tree, Refusal>
+    ensures { SnapshotEnds (seen view.now) source new (answer_of result) (left_of view.now.tree.now result) }
 {
-    if !soundness::sound(size, &tree, node, row) {
+    if !soundness::sound(view) {
         return Err(Refusal::Unsound);
     }
     if new == 0 {
         return Err(Refusal::ZeroTag);
     }
-    let Some(v) = tree::version(&tree, source) else {
+    let tree = view.tree;
+    let Some(v) = tree::version(tree, source) else {
         return Err(Refusal::UnknownTag);
     };
-    if let Some(_) = tree::version(&tree, new) {
+    if let Some(_) = tree::version(tree, new) {
         return Err(Refusal::TagAlive);
     }
-    if tree::snapshots(&tree) >= 64 {
+    if tree::snapshots(tree) >= 64 {
         return Err(Refusal::SnapshotsFull);
     }
-    Ok(growing::with_snapshot(tree, v, new))
+    Ok(growing::with_snapshot(*tree, v, new))
 }

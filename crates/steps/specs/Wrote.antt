@@ -28,7 +28,7 @@ use Rattle.writes.specs.Touching.{untouched_at}
 use Rattle.writes.specs.Writing.{write_verdict, written}
 use Rattle.intact.specs.Intact.{Intact}
 use Rattle.wrote.specs.WroteAllowed.{Allowed, write_allowed}
-use Rattle.intact.specs.Tags.{OriginTag, snapshot_tag}
+use Rattle.intact.specs.Tags.{origin_tag, snapshot_tag}
 use Rattle.wrote.specs.WroteRecords.{free_low, free_unread, row_moved, row_saved}
 use Rattle.wrote.specs.Wrote.{write_left, held_records, by_ways, untouched_written, write_intact}
 use Rattle.steps.specs.SharedTags.{shared_view}
@@ -79,7 +79,7 @@ module _ (z : Records) (places : List ℕ) (st : Store z places) (w : Whole z.tr
       wrote_saving h =
           let (c, k, m) = row_saved z st.sound tag r v bs a e i f h in
           rw k (record {
-            effect = saving shares (OriginTag z st.sound tag (a.stands ∙ ap some h)) (z.size.rows + i) unread
+            effect = saving shares (origin_tag z st.sound tag (a.stands ∙ ap some h)) (z.size.rows + i) unread
                 (saved_alike z places st r bs a.width z.tree (set z.node i c) (set z.row i r) (z.size.rows + i) low a.low m);
           })
 

@@ -2,44 +2,43 @@
 #![tactic(auto)]
 
 ghost use Rattle.std.proofs.Math.Option.{some};
-ghost use Rattle.answers.specs.Results.{answer_of, left_of};
-ghost use Rattle.records.specs.Records.{records_of, table};
+ghost use Rattle.answers.specs.Results.{answer_of};
+ghost use Rattle.records.specs.Records.{table};
+ghost use Rattle.records.specs.Lent.{lent, SameLent};
 ghost use Rattle.sharing.specs.Sharing.{Finds};
 ghost use Rattle.answers.specs.Tests.{refusal};
 ghost use Rattle.soundness.specs.Judged.{Leaves};
-ghost use Rattle.owning.specs.Owning.{held, Writable};
+ghost use Rattle.owning.specs.Owning.{held_in, Writable};
 ghost use Rattle.writes.specs.Unsharing.{full_test};
 ghost use Rattle.writes.specs.Storing.{written_at};
 
 use answers::Refusal;
-use measures::{Row, Size};
+use measures::Row;
+use records::Records;
 use sharing::Looked;
-use trees::Tree;
 
 // A row that has passed every test but 24, as the lookup finds it.
 pub fn store_row(
-    size: Size,
-    tree: Tree,
-    node: &mut [u8],
-    row: &mut [u16],
+    records: &mut Records<'_>,
     places: &mut [u8],
     v: usize,
     r: Row,
     bytes: &[u8],
     seen: Looked,
-) -> Result<Tree, Refusal>
-    requires { Writable (records_of size tree node.old row.old) places.old v r.0 bytes.now
-        × Finds tree (table (records_of size tree node.old row.old)) v r.0 seen }
-    ensures { Leaves (refusal (full_test (records_of size tree node.old row.old) (some v) r.0))
-        (held tree node.old row.old places.old)
-        (written_at (records_of size tree node.old row.old) places.old r.0 bytes.now v)
+) -> Result<(), Refusal>
+    requires { Writable (lent records.old) places.old v r.0 bytes.now
+        × Finds records.old.tree (table (lent records.old)) v r.0 seen }
+    ensures same { SameLent records.old records.new }
+    ensures ends { Leaves (refusal (full_test (lent records.old) (some v) r.0))
+        (held_in records.old places.old)
+        (written_at (lent records.old) places.old r.0 bytes.now v)
         (answer_of result)
-        (held (left_of tree result) node.new row.new places.new) }
+        (held_in records.new places.new) }
 {
-    let width = size.width;
+    let width = records.size.width;
     if seen.sharers < 2 {
         placing::put(places, width, seen.place, bytes);
-        return Ok(tree);
+        return Ok(());
     }
-    unsharing::unshare(size, tree, node, row, places, v, r, bytes)
+    unsharing::unshare(records, places, v, r, bytes)
 }

@@ -2,7 +2,7 @@
 use Rattle.std.proofs.Common.{◌≡◌, ℕ, ◌≤◌, Bool, List}
 use Rattle.commands.specs.declared.Step.{Step}
 use Rattle.commands.specs.Format.{step_at}
-use Rattle.progress.specs.declared.Progress.{Progress}
+use Rattle.progress.specs.Replying.{Progress}
 use Rattle.lines.specs.Turns.{Ready, reached, Turned}
 use Rattle.lines.specs.Loop.{Begins, Through, to_go}
 use Rattle.lines.specs.Loop as loop

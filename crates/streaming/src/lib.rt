@@ -1,32 +1,23 @@
 // The loop over a stream of commands, from reader to reader.
 #![tactic(auto)]
 
-ghost use Rattle.lines.specs.Loop.{Begins, Through};
+ghost use Rattle.progress.specs.Replying.{SameRun};
+ghost use Rattle.lines.specs.Loop.{RunBegins, RunThrough};
 
-use progress::Progress;
+use progress::Run;
+use readers::Reader;
 
 // Every command of the stream, and its line: from reader to reader.
-pub fn lines(
-    stream: &[u8],
-    width: usize,
-    first: Progress,
-    node: &mut [u8],
-    row: &mut [u16],
-    places: &mut [u8],
-    out: &mut [u8],
-) -> Progress
-    requires { Begins width first stream.now out.old }
-    ensures { Through first node.old row.old places.old stream.now out.old
-        result node.new row.new places.new out.new }
+pub fn lines(run: &mut Run<'_, '_, '_>, stream: &[u8], width: usize)
+    requires { RunBegins width run.old stream.now }
+    ensures same { SameRun run.old run.new }
+    ensures through { RunThrough run.old stream.now run.new }
 {
-    let mut reader = readers::make(stream);
-    let mut run = first;
+    let mut reader = Reader::new(stream);
     // A `while`: the run itself says when it is over.
     while run.going {
-        let step = readers::command_here(reader, width);
-        let next = step.next;
-        run = serving::serve(run, step, reader.stream, reader.at, node, row, places, out);
-        reader = readers::moved(reader, next);
+        let step = reader.command(width);
+        serving::serve(run, step, reader);
+        reader = reader.moved(step.next);
     }
-    run
 }

@@ -1,13 +1,14 @@
 -- Rule 4 one node of the list at a time, as the check tests it, and the remainders of tags that it has seen. Assumes nothing.
-use Rattle.std.specs.Prelude.{◌≡◌, refl, ◌≢◌, Bool, true, List, ℕ, ◌+◌, ◌%◌, ◌≤◌, ◌<◌, length, set, replicate}
+use Rattle.std.specs.Prelude.{◌≡◌, ◌≢◌, Bool, true, false, List, ℕ, ◌+◌, ◌%◌, ◌≤◌, ◌<◌, get_or, length, set, replicate}
 use Rattle.std.proofs.Common.{sym, ◌∙◌, ap, arith, length-set, get_or-set_same, get_or-set_other}
 use Rattle.std.proofs.Math.Logic.{by_cases}
 use Rattle.std.proofs.Math.Decide.{ℕ_discrete, dec_lt}
 use Rattle.std.proofs.lemmas.List.{length-replicate}
+use Rattle.std.proofs.lemmas.Bool.{false≢true}
 use Rattle.basics.specs.Decide.{Decides, at}
 use Rattle.faults.specs.Faults.{Below}
 use Rattle.trees.specs.declared.Tree.{Tree}
-use Rattle.trees.specs.Trees.{Snapshot, snapshots}
+use Rattle.trees.specs.Trees.{snapshots}
 use Rattle.trees.specs.Rules.{States, Tagged}
 use Rattle.listing.specs.Listed.{Listed}
 
@@ -20,30 +21,32 @@ abbrev pub TagAt : Tree → List ℕ → ℕ → Type 0
 TagAt t xs j = at t.state (at xs j) ≡ 1 → (0 < at t.tag (at xs j)) × Differs t.tag xs j
 
 -- seen are the remainders of the living nodes' tags before position j. Left free: whether others are, since that only costs a comparison
-pub record Seen (t : Tree) (xs seen : List ℕ) (j : ℕ) : Type 0 where
+pub record Seen (t : Tree) (xs : List ℕ) (seen : List Bool) (j : ℕ) : Type 0 where
   pub size : length seen ≡ 251
-  pub met : (i : ℕ) → i < j → at t.state (at xs i) ≡ 1 → at seen (at t.tag (at xs i) % 251) ≢ 0
+  pub met : (i : ℕ) → i < j → at t.state (at xs i) ≡ 1 → get_or seen (at t.tag (at xs i) % 251) false ≡ true
 
 -- a verdict on P at position j, and if it is good, what is seen then
-pub record Fitted (t : Tree) (xs : List ℕ) (j : ℕ) (P : Type 0) (seen : List ℕ) (b : Bool) : Type 0 where
+pub record Fitted (t : Tree) (xs : List ℕ) (j : ℕ) (P : Type 0) (seen : List Bool) (b : Bool) : Type 0 where
   pub decided : Decides b P
   pub goes_on : b ≡ true → Seen t xs seen (j + 1)
 
 module _ (t : Tree) (xs : List ℕ) where
-  pub seen_first : Seen t xs (replicate 251 0) 0
-  seen_first = record { size = length-replicate {A = ℕ} 251 0; met = λ i l. absurd (omega arith) }
+  pub seen_first : Seen t xs (replicate 251 false) 0
+  seen_first = record { size = length-replicate {A = Bool} 251 false; met = λ i l. absurd (omega arith) }
 
   -- nothing new is to be seen at position j
-  pub seen_past : (seen : List ℕ) (j : ℕ) → (at t.state (at xs j) ≡ 1 → at seen (at t.tag (at xs j) % 251) ≢ 0) → Seen t xs seen j → Seen t xs seen (j + 1)
+  pub seen_past : (seen : List Bool) (j : ℕ) → (at t.state (at xs j) ≡ 1 → get_or seen (at t.tag (at xs j) % 251) false ≡ true) → Seen t xs seen j → Seen t xs seen (j + 1)
   seen_past seen j h s = record { size = s.size; met = λ i l a. by_cases (ℕ_discrete i j) (λ e. rw e (h (rw e at a))) (λ e. s.met i (omega arith) a) }
 
   -- the remainder at position j is seen now
-  pub seen_next : (seen : List ℕ) (j r : ℕ) → r < 251 → at t.tag (at xs j) % 251 ≡ r → Seen t xs seen j → Seen t xs (set seen r 1) (j + 1)
+  pub seen_next : (seen : List Bool) (j r : ℕ) → r < 251 → at t.tag (at xs j) % 251 ≡ r → Seen t xs seen j → Seen t xs (set seen r true) (j + 1)
   seen_next seen j r l e s = record {
-    size = length-set seen r 1 ∙ s.size;
-    met = λ i b a z. by_cases (ℕ_discrete (at t.tag (at xs i) % 251) r)
-        (λ d. omega (arith, z, ap (at (set seen r 1)) d ∙ get_or-set_same seen r 1 0 (omega (arith, s.size))))
-        (λ d. by_cases (ℕ_discrete i j) (λ x. d (ap (λ (k : ℕ). at t.tag (at xs k) % 251) x ∙ e)) (λ x. s.met i (omega arith) a (sym (get_or-set_other seen r _ 1 0 d) ∙ z)));
+    size = length-set seen r true ∙ s.size;
+    met = λ i b a. by_cases (ℕ_discrete (at t.tag (at xs i) % 251) r)
+        (λ d. ap (λ (x : ℕ). get_or (set seen r true) x false) d ∙ get_or-set_same seen r true false (omega (arith, s.size)))
+        (λ d. by_cases (ℕ_discrete i j)
+        (λ x. absurd (d (ap (λ (k : ℕ). at t.tag (at xs k) % 251) x ∙ e)))
+        (λ x. get_or-set_other seen r _ true false d ∙ s.met i (omega arith) a));
   }
 
   module _ (s : States t) (l : Listed t.state xs) where
@@ -54,8 +57,8 @@ module _ (t : Tree) (xs : List ℕ) where
         by_cases (ℕ_discrete (at t.state (at xs i)) 1) (λ e. e) (λ e. absurd (z (s.ghost _ (k, omega (arith, s.kinds _ k)))))
 
     -- where a remainder is not seen, its tag is none of those before
-    pub unseen_differs : (seen : List ℕ) (j : ℕ) → j < length xs → 0 < at t.tag (at xs j) → at seen (at t.tag (at xs j) % 251) ≡ 0 → Seen t xs seen j → Differs t.tag xs j
-    unseen_differs seen j b z e h i k d = h.met i k (living i (omega arith) (λ x. omega (arith, d))) (ap (λ (g : ℕ). at seen (g % 251)) d ∙ e)
+    pub unseen_differs : (seen : List Bool) (j : ℕ) → j < length xs → 0 < at t.tag (at xs j) → get_or seen (at t.tag (at xs j) % 251) false ≡ false → Seen t xs seen j → Differs t.tag xs j
+    unseen_differs seen j b z e h i k d = false≢true (sym e ∙ sym (ap (λ (g : ℕ). get_or seen (g % 251) false) d) ∙ h.met i k (living i (omega arith) (λ x. omega (arith, d))))
 
     pub tags_all : Below (TagAt t xs) (length xs) → snapshots t ≤ 64 → Tagged t
     tags_all h m = record {

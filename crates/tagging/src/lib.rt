@@ -31,7 +31,7 @@ fn differs(nodes: &NodesInUse, j: usize, wanted: u16) -> bool
 }
 
 // Rule 4's first half at position j of the list, where a living node stands with a tag. Only a tag whose remainder was seen before is compared with those before it.
-fn tag_fits(nodes: &NodesInUse, seen: &mut [u8], j: usize, g: u16) -> bool
+fn tag_fits(nodes: &NodesInUse, seen: &mut [bool], j: usize, g: u16) -> bool
     requires { (j < length nodes.now.used.now) × (g ≡ at nodes.now.tree.now.tag (at nodes.now.used.now j)) × States nodes.now.tree.now
         × Seen nodes.now.tree.now nodes.now.used.now seen.old j }
     ensures { Fitted nodes.now.tree.now nodes.now.used.now j ((0 < g) × Differs nodes.now.tree.now.tag nodes.now.used.now j) seen.new result }
@@ -40,15 +40,15 @@ fn tag_fits(nodes: &NodesInUse, seen: &mut [u8], j: usize, g: u16) -> bool
         return false;
     }
     let s = usize::from(g % 251);
-    if seen[s] != 0 {
+    if seen[s] {
         return differs(nodes, j, g);
     }
-    seen[s] = 1;
+    seen[s] = true;
     true
 }
 
 // Rule 4's first half at position j of the list.
-fn tag_read(nodes: &NodesInUse, seen: &mut [u8], j: usize) -> bool
+fn tag_read(nodes: &NodesInUse, seen: &mut [bool], j: usize) -> bool
     requires { (j < length nodes.now.used.now) × States nodes.now.tree.now
         × Seen nodes.now.tree.now nodes.now.used.now seen.old j }
     ensures { Fitted nodes.now.tree.now nodes.now.used.now j (TagAt nodes.now.tree.now nodes.now.used.now j) seen.new result }
@@ -69,7 +69,7 @@ pub fn tagged(nodes: &NodesInUse) -> bool
     if tree::snapshots(nodes.tree) > 64 {
         return false;
     }
-    let mut seen = [0u8; 251];
+    let mut seen = [false; 251];
     for j in 0..nodes.used.len() {
         if !tag_read(nodes, &mut seen, j) {
             return false;

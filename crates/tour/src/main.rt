@@ -3,6 +3,7 @@
 #![tactic(auto)]
 
 use measures::Size;
+use records::View;
 use std::io;
 use tour_lines::{Store, show_open};
 use trees::Tree;
@@ -22,11 +23,14 @@ fn fresh(rt: &impl Print) -> io::Result<()> {
     let Ok(tree) = opened else {
         return Ok(());
     };
-    let store = Store {
+    let records = View {
         size,
-        tree,
+        tree: &tree,
         node: &node,
         row: &row,
+    };
+    let store = Store {
+        records,
         places: &places,
     };
     store.show_count(rt)?;
@@ -49,15 +53,20 @@ fn drawn_tree() -> Tree {
 // The store of the drawing: row 2 of every version, and the row that tag 9 has for itself. Then the same with an entry of
 // another node, and with an entry twice.
 fn drawn(rt: &impl Print) -> io::Result<()> {
-    let store = Store {
-        size: Size {
-            rows: 3,
-            width: 4,
-            places: 7,
-        },
-        tree: drawn_tree(),
+    let size = Size {
+        rows: 3,
+        width: 4,
+        places: 7,
+    };
+    let tree = drawn_tree();
+    let records = View {
+        size,
+        tree: &tree,
         node: &[1, 0, 3, 4],
         row: &[2, 0, 2, 0],
+    };
+    let store = Store {
+        records,
         places: b"\x00\x00\x00\x00\x10\x10\x10\x10    0000\x00\x00\x00\x00PPPP````",
     };
     store.show_count(rt)?;
@@ -66,16 +75,16 @@ fn drawn(rt: &impl Print) -> io::Result<()> {
     store.show_read(rt, 8, 2)?;
     store.show_read(rt, 9, 2)?;
     store.show_read(rt, 9, 0)?;
-    let damaged = Store {
+    let damaged = View {
         node: &[1, 0, 3, 3],
-        ..store
+        ..records
     };
-    damaged.show_count(rt)?;
-    let twice = Store {
+    store.with(damaged).show_count(rt)?;
+    let twice = View {
         row: &[2, 0, 2, 2],
         ..damaged
     };
-    twice.show_count(rt)
+    store.with(twice).show_count(rt)
 }
 
 fn main(rt: HostRuntime) -> io::Result<()> {

@@ -2,17 +2,15 @@
 #![tactic(auto)]
 
 use answers::{Refusal, answer_of};
-use measures::{Row, Size};
+use measures::Row;
+use records::View;
 use std::{fmt, io};
 use trees::Tree;
 
-// A store: its measures, its tree, and what it is lent.
+// A store: its records and its places, only to be read.
 #[derive(Clone, Copy)]
 pub struct Store<'a> {
-    pub size: Size,
-    pub tree: Tree,
-    pub node: &'a [u8],
-    pub row: &'a [u16],
+    pub records: View<'a>,
     pub places: &'a [u8],
 }
 
@@ -33,24 +31,21 @@ pub fn show_open(rt: &impl Print, opened: &Result<Tree, Refusal>) -> io::Result<
     println!(rt; "open: answer {}", answer_of(opened))
 }
 
-impl Store<'_> {
+impl<'a> Store<'a> {
+    // The same places, with other records.
+    pub fn with(self, records: View<'a>) -> Store<'a> {
+        Store { records, ..self }
+    }
+
     pub fn show_count(&self, rt: &impl Print) -> io::Result<()> {
-        let counted = counting::count(self.size, self.tree, self.node, self.row);
+        let counted = counting::count(&self.records);
         let answer = answer_of(&counted);
         let (used, snapshots) = counted.map_or((0, 0), |c| (c.used, c.snapshots));
         println!(rt; "count: answer {answer}, places in use {used}, snapshots alive {snapshots}")
     }
 
     pub fn show_read(&self, rt: &impl Print, tag: u16, row: usize) -> io::Result<()> {
-        let read = queries::read(
-            self.size,
-            self.tree,
-            self.node,
-            self.row,
-            self.places,
-            tag,
-            Row(row),
-        );
+        let read = queries::read(&self.records, self.places, tag, Row(row));
         let answer = answer_of(&read);
         let (bytes, sharers) = read.map_or(
             (&self.places[..0], 0),

@@ -1,5 +1,5 @@
 -- What a version without a child right below a living one alone reads are its own entries, and a delete of it leaves the tree without its node. Assumes nothing.
-use Rattle.std.specs.Prelude.{◌≡◌, refl, ◌≢◌, Bool, true, false, List, [], ◌∷◌, ℕ, zero, suc, ◌+◌, ◌<◌, eqb, length, set}
+use Rattle.std.specs.Prelude.{◌≡◌, refl, ◌≢◌, List, [], ◌∷◌, ℕ, zero, suc, ◌+◌, ◌<◌, eqb, length, set}
 use Rattle.std.proofs.Common.{sym, ◌∙◌, eq-eqb, ne_eqb}
 use Rattle.std.proofs.Math.Path.{ap}
 use Rattle.std.proofs.Math.Logic.{by_cases}
@@ -10,8 +10,8 @@ use native.Mathlib.Omega.{arith}
 use Rattle.std.proofs.Math.Seq.{get_or-set_other}
 use Rattle.basics.specs.Decide.{at}
 use Rattle.trees.specs.declared.Tree.{Tree}
-use Rattle.trees.specs.Trees.{Table, InUse, Alive, Snapshot, up, Child, ancestor}
-use Rattle.trees.specs.Rules.{States, Linked}
+use Rattle.trees.specs.Trees.{Table, Snapshot, up, ancestor}
+use Rattle.trees.specs.Rules.{States}
 use Rattle.table.specs.Rules.{Judging, Marked, Meets, here, above}
 use Rattle.records.specs.Records.{Records, table}
 use Rattle.nodes.specs.Nodes.{first_child, no_child}
@@ -22,7 +22,6 @@ use Rattle.removal.specs.Removal.{lonely, freed_list, ghosted, emptied}
 use Rattle.removal.proofs.Lists.{map_size, map_at, map_only}
 use Rattle.removal.proofs.FreeLonely.{tested}
 use Rattle.freeing.specs.Laws.{alone_lonely, lonely_alone}
-use Rattle.pruning.specs.Pruning.{pruned_tree, pruned_node, settled_tree, settled_node}
 use Rattle.pruning.specs.Laws.{leaf_tree, leaf_node, no_ghost}
 use Rattle.deletes.specs.Deleting.{left, deleted_at, Deletable}
 use Rattle.deletes.proofs.Laws.{used_node, freeable, left_same}

@@ -5,8 +5,10 @@ ghost use Rattle.std.specs.Prelude.{◌≡◌, length};
 ghost use Rattle.basics.specs.Decide.{Decides};
 ghost use Rattle.trees.specs.Trees.{Snapshot};
 ghost use Rattle.tree.specs.Rules.{Parents};
+ghost use Rattle.records.specs.Lent.{SameLent};
 ghost use Rattle.trimming.specs.Trimmed.{Loose, own_freed};
 
+use records::Records;
 use trees::Tree;
 
 // Is the version at node v such a one?
@@ -19,14 +21,17 @@ pub fn loose(tree: &Tree, v: usize) -> bool
 }
 
 // Every entry of node v becomes free.
-pub fn free_own(node: &mut [u8], row: &mut [u16], v: usize)
-    requires { length row.old ≡ length node.old }
-    ensures { (node.new ≡ own_freed v node.old node.old) × (row.new ≡ own_freed v node.old row.old) }
+pub fn free_own(records: &mut Records<'_>, v: usize)
+    requires { length records.old.row.now ≡ length records.old.node.now }
+    ensures same { SameLent records.old records.new }
+    ensures kept { records.new.tree ≡ records.old.tree }
+    ensures freed { (records.new.node.now ≡ own_freed v records.old.node.now records.old.node.now)
+        × (records.new.row.now ≡ own_freed v records.old.node.now records.old.row.now) }
 {
-    for i in 0..node.len() {
-        if usize::from(node[i]) == v {
-            node[i] = 0;
-            row[i] = 0;
+    for i in 0..records.node.len() {
+        if usize::from(records.node[i]) == v {
+            records.node[i] = 0;
+            records.row[i] = 0;
         }
     }
 }

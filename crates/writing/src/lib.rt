@@ -2,67 +2,64 @@
 #![tactic(auto)]
 
 ghost use Rattle.std.specs.Prelude.{◌≡◌, ◌*◌, length};
-ghost use Rattle.answers.specs.Results.{answer_of, left_of};
-ghost use Rattle.records.specs.Records.{records_of};
+ghost use Rattle.answers.specs.Results.{answer_of};
+ghost use Rattle.records.specs.Lent.{lent, SameLent};
 ghost use Rattle.records.specs.Sound.{Sound};
 ghost use Rattle.soundness.specs.Judged.{Leaves};
-ghost use Rattle.owning.specs.Owning.{held};
+ghost use Rattle.owning.specs.Owning.{held_in};
 ghost use Rattle.writes.specs.Writing.{write_verdict, written, WriteEnds};
 
 use answers::Refusal;
-use measures::{Row, Size};
-use trees::Tree;
+use measures::Row;
+use records::Records;
 
 // A write on sound records, its lengths right. Refusals: 3, 21, 24.
 pub fn write_row(
-    size: Size,
-    tree: Tree,
-    node: &mut [u8],
-    row: &mut [u16],
+    records: &mut Records<'_>,
     places: &mut [u8],
     tag: u16,
     r: Row,
     bytes: &[u8],
-) -> Result<Tree, Refusal>
-    requires { Sound (records_of size tree node.old row.old) × (length places.old ≡ size.places * size.width) × (length bytes.now ≡ size.width) }
-    ensures { Leaves (write_verdict (records_of size tree node.old row.old) places.old tag r.0 bytes.now)
-        (held tree node.old row.old places.old)
-        (written (records_of size tree node.old row.old) places.old tag r.0 bytes.now)
+) -> Result<(), Refusal>
+    requires { Sound (lent records.old) × (length places.old ≡ records.old.size.places * records.old.size.width)
+        × (length bytes.now ≡ records.old.size.width) }
+    ensures same { SameLent records.old records.new }
+    ensures ends { Leaves (write_verdict (lent records.old) places.old tag r.0 bytes.now)
+        (held_in records.old places.old)
+        (written (lent records.old) places.old tag r.0 bytes.now)
         (answer_of result)
-        (held (left_of tree result) node.new row.new places.new) }
+        (held_in records.new places.new) }
 {
-    let rows = size.rows;
-    if !measures::has_row(rows, r) {
+    let rows = records.size.rows;
+    if !r.is_below(rows) {
         return Err(Refusal::BadRow);
     }
-    let Some(v) = tree::version(&tree, tag) else {
+    let Some(v) = tree::version(&records.tree, tag) else {
         return Err(Refusal::UnknownTag);
     };
-    touching::save_row(size, tree, node, row, places, v, r, bytes)
+    touching::save_row(records, places, v, r, bytes)
 }
 
 // Refusals: 20, 2, 3, 21, 24. A refusal changes nothing.
 pub fn write(
-    size: Size,
-    tree: Tree,
-    node: &mut [u8],
-    row: &mut [u16],
+    records: &mut Records<'_>,
     places: &mut [u8],
     tag: u16,
     r: Row,
     bytes: &[u8],
-) -> Result<Tree, Refusal>
-    ensures { WriteEnds (records_of size tree node.old row.old) places.old tag r.0 bytes.now (answer_of result)
-        (held (left_of tree result) node.new row.new places.new) }
+) -> Result<(), Refusal>
+    ensures same { SameLent records.old records.new }
+    ensures ends { WriteEnds (lent records.old) places.old tag r.0 bytes.now (answer_of result) (held_in records.new places.new) }
 {
-    if !soundness::sound(size, &tree, node, row) {
+    if !soundness::sound(&records.view()) {
         return Err(Refusal::Unsound);
     }
+    let size = records.size;
     if places.len() != size.places * size.width {
         return Err(Refusal::BadLength);
     }
     if bytes.len() != size.width {
         return Err(Refusal::BadLength);
     }
-    write_row(size, tree, node, row, places, tag, r, bytes)
+    write_row(records, places, tag, r, bytes)
 }

@@ -23,7 +23,7 @@ use Rattle.nodes.specs.Nodes.{empty_node, first_child, empty_of, empty_found, ch
 use Rattle.sharing.specs.Sharing.{free_entry, SharedAt, shared_at}
 use Rattle.sharing.specs.Laws.{full_used, shared_decides}
 use Rattle.owning.specs.Owning.{parted_tree', parted_node', parted_tree, parted_node}
-use Rattle.intact.specs.Tags.{OriginTag, snapshot_tag}
+use Rattle.intact.specs.Tags.{origin_tag, snapshot_tag}
 use Rattle.wrote.specs.WroteAllowed.{Allowed}
 
 module _ (z : Records) (s : Sound z) where
@@ -75,7 +75,7 @@ module _ (z : Records) (s : Sound z) where
   own_moved w tag v r i u h off low live d same free =
       let p = parted w tag v h off in
       let o = own_row (with_tree z (parted_tree z.tree v)) p.sound tag (parted_node z.tree v) r i u p.stands
-      (λ e. snapshot_tag z s tag v h off (OriginTag (with_tree z (parted_tree z.tree v)) p.sound tag (p.stands ∙ ap some e)))
+      (λ e. snapshot_tag z s tag v h off (origin_tag (with_tree z (parted_tree z.tree v)) p.sound tag (p.stands ∙ ap some e)))
       p.leaf low (p.living u ∙ live) d (p.same u r live ∙ same ∙ sym (p.same tag r (version_lives z tag v h))) free in
       record {
         sound = o.sound;
@@ -113,7 +113,7 @@ module _ (z : Records) (s : Sound z) where
 
     pub row_saved : v ≡ 0 → (c : ℕ) × (first_child z.tree 0 ≡ some c) × Saved z (records_of z.size z.tree (set z.node i c) (set z.row i r)) r (z.size.rows + i)
     row_saved h =
-        let g = OriginTag z s tag (a.stands ∙ ap some h) in
+        let g = origin_tag z s tag (a.stands ∙ ap some h) in
         let (u, l, d, p) = shared in
         let off : u ≢ 0 = λ x. d (x ∙ sym g) in
         let (c, k) = root_child u l off in

@@ -1,5 +1,5 @@
 -- `affecting::affected` meets its contract: going up, what is passed gets a 1. Assumes nothing.
-use Prim.Native.Nat.{ℕ}
+use Rattle.std.specs.Prelude.{Bool, false}
 use mathlib.Core.Path.{◌≡◌}
 use native.Mathlib.Omega.{arith}
 use lib.ListN.{length-replicate}
@@ -8,11 +8,7 @@ use Rattle.affecting.specs.Affected.{passing_first, passing_next, passing_end, c
 use Rattle.affecting.proofs.affected.Goals as goal
 
 pub loop-k-init : goal.loop-k-init
-loop-k-init c = let p = c.requires.2 in (climb_first _ _ p, passing_first _ _ _ (length-replicate {A = ℕ} 128 0), p.0)
-
-pub bounds-tree-m-in-loop-k : goal.bounds-tree-m-in-loop-k
-bounds-tree-m-in-loop-k c = let (k, q, z) = c.loop-k.invariant in
-    omega (arith, c.from-m.ensures, (c.requires.1.parent _ z k.used).0)
+loop-k-init c = let p = c.requires.2 in (climb_first _ _ p, passing_first _ _ _ (length-replicate {A = Bool} 128 false), p.0)
 
 pub returns-then-tree-m-eq1 : goal.returns-then-tree-m-eq1
 returns-then-tree-m-eq1 c = let p = c.requires in

@@ -1,5 +1,4 @@
 -- `affecting::affected` meets its contract: going up, what is passed gets a 1. Assumes nothing.
-use Prim.Native.Nat.{◌-◌}
 use mathlib.Core.Logic.{◌≢◌}
 use Rattle.tree.specs.Loops.{Climbing}
 use Rattle.affecting.specs.Affected.{Passing}

@@ -13,26 +13,26 @@ write-requires c = (ready_room c.requires.0 12 c.in-Write.is refl (omega arith),
 pub delete-requires : goal.delete-requires
 delete-requires c = ready_room c.requires.0 12 c.in-Delete.is refl (omega arith)
 
-pub returns-in-Snapshot : goal.returns-in-Snapshot
-returns-in-Snapshot c = turn_step _ c.requires.0.stands c.in-Snapshot.is refl (c.snapshot.ensures _)
+pub returns-in-Snapshot-clause-turned : goal.returns-in-Snapshot-clause-turned
+returns-in-Snapshot-clause-turned c = turn_step _ c.requires.0.stands c.in-Snapshot.is refl c.snapshot.ensures.answers
 
-pub returns-in-Write : goal.returns-in-Write
-returns-in-Write c = turn_step _ c.requires.0.stands c.in-Write.is refl c.write.ensures
+pub returns-in-Write-clause-turned : goal.returns-in-Write-clause-turned
+returns-in-Write-clause-turned c = turn_step _ c.requires.0.stands c.in-Write.is refl c.write.ensures.answers
 
-pub returns-in-Delete : goal.returns-in-Delete
-returns-in-Delete c = turn_step _ c.requires.0.stands c.in-Delete.is refl (c.delete.ensures _)
+pub returns-in-Delete-clause-turned : goal.returns-in-Delete-clause-turned
+returns-in-Delete-clause-turned c = turn_step _ c.requires.0.stands c.in-Delete.is refl c.delete.ensures.answers
 
-pub returns-in-Read : goal.returns-in-Read
-returns-in-Read c = no_change _ c.in-Read.is refl c.requires.1
+pub returns-in-Read-clause-turned : goal.returns-in-Read-clause-turned
+returns-in-Read-clause-turned c = no_change _ c.in-Read.is refl c.requires.1
 
-pub returns-in-Count : goal.returns-in-Count
-returns-in-Count c = no_change _ c.in-Count.is refl c.requires.1
+pub returns-in-Count-clause-turned : goal.returns-in-Count-clause-turned
+returns-in-Count-clause-turned c = no_change _ c.in-Count.is refl c.requires.1
 
-pub returns-in-Unknown : goal.returns-in-Unknown
-returns-in-Unknown c = no_change _ c.in-Unknown.is refl c.requires.1
+pub returns-in-Unknown-clause-turned : goal.returns-in-Unknown-clause-turned
+returns-in-Unknown-clause-turned c = no_change _ c.in-Unknown.is refl c.requires.1
 
-pub returns-in-Cut : goal.returns-in-Cut
-returns-in-Cut c = no_change _ c.in-Cut.is refl c.requires.1
+pub returns-in-Cut-clause-turned : goal.returns-in-Cut-clause-turned
+returns-in-Cut-clause-turned c = no_change _ c.in-Cut.is refl c.requires.1
 
-pub returns-in-Over : goal.returns-in-Over
-returns-in-Over c = no_change _ c.in-Over.is refl c.requires.1
+pub returns-in-Over-clause-turned : goal.returns-in-Over-clause-turned
+returns-in-Over-clause-turned c = no_change _ c.in-Over.is refl c.requires.1

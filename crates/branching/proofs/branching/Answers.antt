@@ -1,9 +1,7 @@
 -- `branching::branching` meets its contract. Assumes nothing.
 use native.Mathlib.Omega.{arith}
-use borrow.Author.Count.{below_more}
 use Rattle.listing.specs.InUse.{listed_in}
 use Rattle.branching.specs.Children.{branch_root, branch_ghost, branch_all}
-use Rattle.basics.specs.Decide.{holds}
 use Rattle.basics.specs.Decide.{fails}
 use Rattle.branching.proofs.branching.Goals as goal
 

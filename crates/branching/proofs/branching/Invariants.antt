@@ -1,6 +1,4 @@
 -- `branching::branching` meets its contract. Assumes nothing.
-use Prim.Native.Nat.{◌≤◌, ◌-◌}
-use lib.ListN.{length}
 use Rattle.basics.specs.Decide.{at}
 use Rattle.faults.specs.Faults.{Below}
 use Rattle.branching.specs.Children.{Forks}

@@ -1,8 +1,8 @@
 -- `branching::tally` meets its contract: the children up to position j are counted at their parents. Assumes nothing.
 use borrow.Author.Rules.{rules}
-use mathlib.Core.Path.{◌≡◌, ◌∙◌}
+use mathlib.Core.Path.{◌∙◌}
 use native.Mathlib.Omega.{arith}
-use lib.ListN.{length, length-set}
+use lib.ListN.{length-set}
 use Rattle.basics.proofs.CountLaws.{count_most}
 use Rattle.branching.specs.Children.{child_at, counted_first, counted_next}
 use Rattle.branching.proofs.tally.Goals as goal

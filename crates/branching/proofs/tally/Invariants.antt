@@ -1,5 +1,4 @@
 -- `branching::tally` meets its contract: the children up to position j are counted at their parents. Assumes nothing.
-use Prim.Native.Nat.{◌≤◌, ◌-◌}
 use mathlib.Core.Path.{◌≡◌}
 use lib.ListN.{length}
 use Rattle.branching.specs.Children.{Counted}

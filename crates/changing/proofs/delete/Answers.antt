@@ -1,9 +1,7 @@
 -- `changing::delete` meets its contract. Assumes nothing.
-use mathlib.Core.Path.{refl}
-use Rattle.records.specs.Records.{records_of}
-use Rattle.progress.specs.Laws.{answered}
+use Rattle.progress.specs.Laws.{run_answered}
 use Rattle.changing.specs.Laws.{delete_replied}
 use Rattle.changing.proofs.delete.Goals as goal
 
-pub returns : goal.returns
-returns c = λ places. answered c.reply.ensures.goes (delete_replied (records_of _ _ _ _) refl c.delete-d.ensures c.reply.ensures.lays places)
+pub returns-clause-answers : goal.returns-clause-answers
+returns-clause-answers c = run_answered c.args.run.now c.reply.new.run c.delete-deleted.ensures.same.size c.reply.ensures.held c.reply.ensures.goes (delete_replied c.delete-deleted.ensures.ends c.reply.ensures.lays)

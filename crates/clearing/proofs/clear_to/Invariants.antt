@@ -1,6 +1,4 @@
 -- `clearing::clear_to` meets its contract. Assumes nothing.
-use Prim.Native.Nat.{◌≤◌, ◌-◌}
-use lib.ListN.{length}
 use Rattle.faults.specs.Faults.{Below}
 use Rattle.trees.specs.Trees.{entries_of}
 use Rattle.clearing.specs.Clear.{Clear}

@@ -1,9 +1,6 @@
 -- `clearing::rest_read` meets its contract: the exceptions passed are read. Assumes nothing.
 use native.Mathlib.Omega.{arith}
-use borrow.Author.Count.{below_more}
 use Rattle.clearing.specs.Clear.{clear_read}
-use Rattle.basics.specs.Decide.{holds}
-use Rattle.basics.specs.Decide.{fails}
 use Rattle.clearing.proofs.rest_read.Goals as goal
 
 pub loop-i-init : goal.loop-i-init

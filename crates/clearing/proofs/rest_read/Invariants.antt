@@ -1,6 +1,4 @@
 -- `clearing::rest_read` meets its contract: the exceptions passed are read. Assumes nothing.
-use Prim.Native.Nat.{◌≤◌, ◌-◌}
-use lib.ListN.{length}
 use Rattle.faults.specs.Faults.{Below}
 use Rattle.trees.specs.Trees.{entries_of}
 use Rattle.table.specs.Rules.{ReadAt}

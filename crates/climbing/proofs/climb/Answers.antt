@@ -1,6 +1,4 @@
 -- `climbing::climb` meets its contract: what the node reads is what the node above it reads. Assumes nothing.
-use Prim.Native.Nat.{◌<◌}
-use native.Mathlib.Omega.{arith}
 use Rattle.notes.proofs.Rising.{rise_start, rise_root, rise_own, rise_up, rise_over}
 use Rattle.climbing.proofs.climb.Goals as goal
 

@@ -1,5 +1,4 @@
 -- `climbing::climb` meets its contract: what the node reads is what the node above it reads. Assumes nothing.
-use Prim.Native.Nat.{◌-◌}
 use Rattle.notes.proofs.Rising.{Rising}
 use Rattle.climbing.proofs.climb.Given as goal
 

@@ -1,15 +1,8 @@
 -- `entering::entries` meets its contract: the entries passed fit and have their marks. Assumes nothing.
-use mathlib.Core.Path.{◌≡◌, refl, ◌∙◌}
+use mathlib.Core.Path.{◌≡◌}
 use native.Mathlib.Omega.{arith}
-use borrow.Author.Count.{below_more}
 use lib.ListN.{length}
-use mathlib.Core.Bool.{false≢true}
-use borrow.Author.Tests.{not-false}
-use Rattle.table.proofs.Laws.{excepting_entry, excepting_all}
-use Rattle.basics.specs.Decide.{holds}
-use Rattle.basics.specs.Decide.{fails}
-use Rattle.std.proofs.Common.{ap}
-use Rattle.std.specs.Prelude.{not}
+use Rattle.table.proofs.Laws.{excepting_all}
 use Rattle.entering.proofs.entries.Goals as goal
 
 pub returns : goal.returns

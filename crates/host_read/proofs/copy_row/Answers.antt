@@ -14,7 +14,7 @@ pub returns-then-out-size : goal.returns-then-out-size
 returns-then-out-size c = copied_length (λ e. c.if-answer_of-number.false (c.answer_of.ensures ∙ e ∙ sym c.number.ensures)) c.if-out-size.true
 
 pub returns-in-Ok : goal.returns-in-Ok
-returns-in-Ok c = rw c.in-Ok.is (copied_done (λ e. omega (arith, e)) c.if-out-size.false refl c.fill.ensures)
+returns-in-Ok c = rw c.in-Ok.is (copied_done (λ e. omega (arith, e)) c.if-out-size.false refl c.copy_from_slice.ensures.after)
 
 pub returns-in-Err : goal.returns-in-Err
 returns-in-Err c = let other : answer_of c.args.read ≢ 20 = λ e. c.if-answer_of-number.false (c.answer_of.ensures ∙ e ∙ sym c.number.ensures) in

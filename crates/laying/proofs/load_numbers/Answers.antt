@@ -1,10 +1,7 @@
 -- `laying::load_numbers` meets its contract. Assumes nothing.
 use native.Mathlib.Omega.{arith}
-use Rattle.laying.specs.Laws.{load_start, load_all}
+use Rattle.laying.specs.Laws.{load_all}
 use Rattle.laying.proofs.load_numbers.Goals as goal
-
-pub load_stretch-requires : goal.load_stretch-requires
-load_stretch-requires c = (omega arith, omega arith, load_start _ _ c.requires)
 
 pub returns : goal.returns
 returns c = load_all _ _ _ (omega arith) c.load_stretch.ensures.0

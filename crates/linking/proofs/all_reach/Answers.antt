@@ -5,7 +5,7 @@ use Rattle.listing.specs.InUse.{listed_in}
 use Rattle.trees.specs.Trees.{up, Reaches}
 use Rattle.listing.specs.Listed.{listed_all}
 use Rattle.linking.specs.Known.{known_first}
-use Rattle.basics.specs.Decide.{holds, fails}
+use Rattle.basics.specs.Decide.{holds}
 use Rattle.linking.proofs.all_reach.Goals as goal
 
 pub loop-n-init : goal.loop-n-init

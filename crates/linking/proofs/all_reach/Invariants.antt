@@ -1,6 +1,4 @@
 -- `linking::all_reach` meets its contract: node by node of the list. Assumes nothing.
-use Prim.Native.Nat.{◌≤◌, ◌-◌}
-use lib.ListN.{length}
 use Rattle.basics.specs.Decide.{at}
 use Rattle.faults.specs.Faults.{Below}
 use Rattle.trees.specs.Trees.{up, Reaches}

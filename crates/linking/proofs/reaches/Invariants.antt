@@ -1,5 +1,4 @@
 -- `linking::reaches` meets its contract: the climb either meets a known node or is longer than any path to node 0. Assumes nothing.
-use Prim.Native.Nat.{◌-◌}
 use Rattle.tree.specs.Loops.{Climbing}
 use Rattle.linking.proofs.reaches.Given as goal
 

@@ -1,7 +1,5 @@
 -- `nearing::hidden` meets its contract, node by node. Assumes nothing.
 use Prim.Native.Nat.{ℕ}
-use mathlib.Core.Path.{◌≡◌}
-use native.Mathlib.Omega.{arith}
 use lib.ListN.{get_or-replicate, length-replicate}
 use Rattle.nearing.specs.Near.{hidden_first}
 use Rattle.nearing.proofs.hidden.Goals as goal

@@ -1,5 +1,4 @@
 -- `nearing::hidden` meets its contract, node by node. Assumes nothing.
-use Prim.Native.Nat.{◌≤◌, ◌-◌}
 use Rattle.nearing.specs.Near.{Hidden}
 use Rattle.nearing.proofs.hidden.Given as goal
 

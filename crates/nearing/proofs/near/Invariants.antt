@@ -1,6 +1,4 @@
 -- `nearing::near` meets its contract: node by node of the list. Assumes nothing.
-use Prim.Native.Nat.{◌≤◌, ◌-◌}
-use lib.ListN.{length}
 use Rattle.nearing.specs.Near.{Near}
 use Rattle.nearing.proofs.near.Given as goal
 

@@ -1,5 +1,4 @@
 -- `nodes::childless` meets its contract: children are counted. Assumes nothing.
-use Prim.Native.Nat.{◌≤◌, ◌-◌}
 use Rattle.faults.specs.Faults.{Faults}
 use Rattle.nodes.specs.Nodes.{NoChild}
 use Rattle.nodes.proofs.childless.Given as goal

@@ -3,7 +3,6 @@ use mathlib.Core.Path.{◌≡◌, sym}
 use native.Mathlib.Omega.{arith}
 use Rattle.nodes.specs.Nodes.{children_start}
 use Rattle.trees.specs.Trees.{children}
-use Prim.Native.Nat.{◌-◌}
 use mathlib.Core.Path.{◌∙◌}
 use mathlib.Core.Logic.{◌≢◌}
 use Rattle.nodes.specs.Nodes.{children_more}

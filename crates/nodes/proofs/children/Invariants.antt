@@ -1,5 +1,5 @@
 -- `nodes::children` meets its contract: the children below n are counted. Assumes nothing.
-use Prim.Native.Nat.{◌≤◌, ◌<◌, ◌-◌}
+use Prim.Native.Nat.{◌<◌}
 use mathlib.Core.Path.{◌≡◌}
 use Rattle.trees.specs.Trees.{is_child}
 use Rattle.basics.specs.Count.{count}

@@ -3,7 +3,6 @@ use mathlib.Core.Path.{◌≡◌, sym, ◌∙◌}
 use mathlib.Core.Logic.{◌≢◌}
 use native.Mathlib.Omega.{arith}
 use Rattle.nodes.specs.Nodes.{first_child, child_start, child_here}
-use Prim.Native.Nat.{◌-◌}
 use Rattle.nodes.specs.Nodes.{child_past}
 use Rattle.nodes.proofs.first_child.Goals as goal
 use Rattle.nodes.proofs.first_child.Goals.{else-tree-n-ne0-via-else-tree-n-ne0 as unused, else-tree-n-ne0-via-then-tree-n-ne0+else-from-p as other}

@@ -1,5 +1,4 @@
 -- `nodes::first_child` meets its contract: no node passed is the child. Assumes nothing.
-use Prim.Native.Nat.{◌≤◌, ◌-◌}
 use mathlib.Core.Path.{◌≡◌}
 use mathlib.Core.Option.{none}
 use Rattle.trees.specs.Trees.{is_child}

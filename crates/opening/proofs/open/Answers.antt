@@ -2,7 +2,6 @@
 use mathlib.Core.Path.{◌≡◌, refl}
 use Rattle.std.specs.Prelude.{length, replicate}
 use Rattle.std.proofs.lemmas.Grind.{common_steps}
-use native.Mathlib.Nat.{mul-le-mul}
 use native.Mathlib.Omega.{arith}
 use Rattle.opening.specs.Laws.{opening_refused, opening_done, size_refused, places_refused, nodes_refused, rows_refused, accepted}
 use Rattle.answers.specs.declared.Refusal.TheVariants.{BadSize, BadLength}
@@ -14,14 +13,6 @@ use Rattle.opening.proofs.open.Goals.{then-places-size-via-then-places-size, the
 
 pub returns-then-not-within : goal.returns-then-not-within
 returns-then-not-within c = opening_refused _ _ _ _ BadSize (size_refused _ _ _ _ (fails c.within.result c.within.ensures c.if-not-within.true)) _ _ refl refl
-
-pub overflow_sub-entries : goal.overflow_sub-entries
-overflow_sub-entries c = let sized : Within c.args.size = holds c.within.result c.within.ensures c.if-not-within.false in
-    sized.places.0
-
-pub overflow_mul-size : goal.overflow_mul-size
-overflow_mul-size c = let sized : Within c.args.size = holds c.within.result c.within.ensures c.if-not-within.false in
-    omega (arith, mul-le-mul sized.places.1 sized.width.1)
 
 pub returns-then-places-size : goal.returns-then-places-size
 returns-then-places-size c = let sized : Within c.args.size = holds c.within.result c.within.ensures c.if-not-within.false in

@@ -1,6 +1,4 @@
 -- `ordering::parents_first` meets its contract. Assumes nothing.
-use Prim.Native.Nat.{◌≤◌, ◌-◌}
-use lib.ListN.{length}
 use Rattle.ordering.specs.Ordered.{Noting}
 use Rattle.ordering.proofs.parents_first.Given as goal
 

@@ -16,7 +16,7 @@ pub unwrap-tree-requires : goal.unwrap-tree-requires
 unwrap-tree-requires c = is_opened _ (c.open.ensures.answers ∙ rw (opens _ _ _ refl refl refl))
 
 pub returns-in-Ok : goal.returns-in-Ok
-returns-in-Ok c = program_serves refl refl refl (rw c.unwrap-tree.ensures at c.open.ensures) c.requires.0 c.requires.1 c.in-Ok.ensures
+returns-in-Ok c = program_serves refl refl refl (rw c.unwrap-tree.ensures at c.open.ensures) c.requires.0 c.requires.1 c.in-Ok.ensures.ends
 
 pub returns-in-Err : goal.returns-in-Err
-returns-in-Err c = program_serves refl refl refl (rw c.unwrap-tree.ensures at c.open.ensures) c.requires.0 c.requires.1 c.in-Err.ensures
+returns-in-Err c = program_serves refl refl refl (rw c.unwrap-tree.ensures at c.open.ensures) c.requires.0 c.requires.1 c.in-Err.ensures.ends

@@ -1,15 +1,14 @@
 -- `reaching::others_reach` meets its contract: node by node it is known who meets g. Assumes nothing.
 use Prim.Native.Nat.{◌<◌}
 use mathlib.Core.Path.{◌≡◌, refl, ◌∙◌, ap}
-use mathlib.Core.Logic.{inl, inr}
-use mathlib.Core.Bool.{false}
+use mathlib.Core.Logic.{inl}
+use mathlib.Core.Bool.{true, false}
 use native.Mathlib.Omega.{arith}
 use Rattle.basics.specs.Decide.{Decides, at, holds, fails}
 use Rattle.bits.specs.Bits.{has}
 use Rattle.table.specs.Rules.{slot, here}
-use Rattle.ordering.specs.Ordered.{parent_low}
+use Rattle.ordering.specs.Ordered.{is_noted}
 use Rattle.reaching.specs.Reaching.{reaching_first, reaching_met, reaching_none}
-use Prim.Native.Nat.{◌-◌}
 use mathlib.Core.Path.{sym}
 use Rattle.reaching.specs.Reaching.{reaching_past}
 use Rattle.reaching.specs.Reaching.{reaching_next}
@@ -33,14 +32,14 @@ returns-then-far-j c = λ h.
 pub returns-then-another-2 : goal.returns-then-another-2
 returns-then-another-2 c = let node_low : c.from-c.result < 128 = omega (arith, c.from-c.ensures, (c.requires.1.each c.loop-j.j c.loop-j-test.true).1) in
     let parent_is : (c.from-p.result ≡ at c.args.tree.now.parent (at c.args.order.now c.loop-j.j)) = c.from-p.ensures ∙ ap (at c.args.tree.now.parent) c.from-c.ensures in
-    let met : (let a = c.args in Decides c.meets_too.result ((at c.loop-j.reach (at a.tree.now.parent (at a.order.now c.loop-j.j)) ≡ 1) × (has a.marks.now (slot (at a.order.now c.loop-j.j) a.r.0) ≡ false))) = rw (parent_is, c.from-c.ensures) at c.meets_too.ensures in
+    let met : (let a = c.args in Decides c.meets_too.result ((is_noted c.loop-j.reach (at a.tree.now.parent (at a.order.now c.loop-j.j)) ≡ true) × (has a.marks.now (slot (at a.order.now c.loop-j.j) a.r.0) ≡ false))) = rw (parent_is, c.from-c.ensures) at c.meets_too.ensures in
     let h = holds c.another-then-meets_too.result c.another-then-meets_too.ensures c.if-another-2.true in
     let m = holds c.meets_too.result (met) c.if-meets_too.true in
     (_, ((node_low, h.0), h.1, rw c.from-c.ensures (reaching_met _ _ _ _ _ _ _ c.requires.0.below c.requires.1 _ _ _ c.loop-j-test.true c.loop-j.invariant m.0 m.1)))
 
 pub loop-j-preserved : goal.loop-j-preserved
 loop-j-preserved c = let parent_is : (c.from-p.result ≡ at c.args.tree.now.parent (at c.args.order.now c.loop-j.j)) = c.from-p.ensures ∙ ap (at c.args.tree.now.parent) c.from-c.ensures in
-    let met : (let a = c.args in Decides c.meets_too.result ((at c.loop-j.reach (at a.tree.now.parent (at a.order.now c.loop-j.j)) ≡ 1) × (has a.marks.now (slot (at a.order.now c.loop-j.j) a.r.0) ≡ false))) = rw (parent_is, c.from-c.ensures) at c.meets_too.ensures in
+    let met : (let a = c.args in Decides c.meets_too.result ((is_noted c.loop-j.reach (at a.tree.now.parent (at a.order.now c.loop-j.j)) ≡ true) × (has a.marks.now (slot (at a.order.now c.loop-j.j) a.r.0) ≡ false))) = rw (parent_is, c.from-c.ensures) at c.meets_too.ensures in
     let p = c.requires in
     let v = c.loop-j.invariant in
     elim c.if-meets_too.branch [

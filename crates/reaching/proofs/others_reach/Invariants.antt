@@ -1,6 +1,4 @@
 -- `reaching::others_reach` meets its contract: node by node it is known who meets g. Assumes nothing.
-use Prim.Native.Nat.{◌-◌}
-use lib.ListN.{length}
 use Rattle.reaching.specs.Reaching.{Reaching}
 use Rattle.reaching.proofs.others_reach.Given as goal
 

@@ -1,7 +1,6 @@
 -- `seeking::is_read` meets its contract. Assumes nothing.
-use mathlib.Core.Path.{sym, ◌∙◌, ap}
+use mathlib.Core.Path.{sym, ap}
 use native.Mathlib.Omega.{arith}
-use Prim.Native.Nat.{◌<◌}
 use Rattle.table.proofs.Laws.{read_own, met_read}
 use Rattle.basics.specs.Decide.{at, decides_iff}
 use Rattle.seeking.proofs.is_read.Goals as goal

@@ -1,5 +1,5 @@
 -- `seeking::met` meets its contract: no living node passed meets g. Assumes nothing.
-use Prim.Native.Nat.{ℕ, ◌≤◌, ◌<◌, ◌-◌}
+use Prim.Native.Nat.{ℕ, ◌<◌}
 use mathlib.Core.Path.{◌≡◌}
 use Rattle.table.specs.Rules.{Meets}
 use Rattle.basics.specs.Decide.{at}

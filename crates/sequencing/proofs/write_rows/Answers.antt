@@ -1,6 +1,6 @@
 -- `sequencing::write_rows` meets its contract: at each row the border is along. Assumes nothing.
 use borrow.Author.Rules.{rules}
-use mathlib.Core.Path.{◌≡◌, refl, sym, ◌∙◌}
+use mathlib.Core.Path.{◌≡◌, refl}
 use native.Mathlib.Omega.{arith}
 use lib.ListN.{length}
 use Rattle.answers.proofs.Laws.{number_some}
@@ -9,21 +9,17 @@ use Rattle.borders.proofs.BorderingLaws.{along_start, along_over, along_ends, al
 use Rattle.sequencing.proofs.write_rows.Goals as goal
 
 pub loop-i-init : goal.loop-i-init
-loop-i-init c = let whole : Whole c.args.tree = record { state = search rules; tag = search rules; parent = search rules } in
-    (along_start _ _ _ _ _ (record { sound = c.requires.0; size = c.requires.1; whole = whole }), refl, refl, refl)
+loop-i-init c = let whole : Whole c.args.records.now.tree = record { state = search rules; tag = search rules; parent = search rules } in
+    (search rules, along_start _ _ _ _ _ (record { sound = c.requires.0; size = c.requires.1; whole = whole }))
 
-pub write_at-requires : goal.write_at-requires
-write_at-requires c = let i = c.loop-i.invariant.0 in
-    let p = c.requires in
-    (i.intact.sound, i.intact.size, p.2, p.3, c.loop-i-test.true)
-
-pub returns-in-Err : goal.returns-in-Err
-returns-in-Err c = along_ends _ _ _ _ c.loop-i.invariant.0 c.loop-i-test.true c.in-Err.ensures (number_some c.in-Err.refusal)
+pub returns-in-Err-clause-ends : goal.returns-in-Err-clause-ends
+returns-in-Err-clause-ends c = let i = c.loop-i.invariant in
+    along_ends _ _ _ _ i.1 c.loop-i-test.true (rw i.0.size at c.in-Err.ensures.ends) (number_some c.in-Err.refusal)
 
 pub loop-i-preserved : goal.loop-i-preserved
-loop-i-preserved c = (along_next _ _ _ _ c.loop-i.invariant.0 c.loop-i-test.true c.in-Ok.ensures refl, search rules, search rules, search rules)
+loop-i-preserved c = let i = c.loop-i.invariant in
+    (search rules, along_next _ _ _ _ i.1 c.loop-i-test.true (rw i.0.size at c.in_default.ensures.ends) refl)
 
-pub returns : goal.returns
-returns c = let all : c.loop-i.i ≡ length c.args.rows.now = omega arith in
-    let k = along_over _ _ _ _ c.loop-i.invariant.0 c.loop-i-test.false in
-    record { numbered = k.numbered; counted = sym all ∙ k.counted; left = k.left }
+pub returns-clause-ends : goal.returns-clause-ends
+returns-clause-ends c = let all : c.loop-i.i ≡ length c.args.rows.now = omega arith in
+    rw all at (along_over _ _ _ _ c.loop-i.invariant.1 c.loop-i-test.false)

@@ -16,26 +16,29 @@ stop-requires c = ready_room c.requires 12 c.in-Unknown.is refl (omega arith)
 pub stop-requires-in-Cut : goal.stop-requires-in-Cut
 stop-requires-in-Cut c = ready_room c.requires 12 c.in-Cut.is refl (omega arith)
 
-pub returns-in-Read : goal.returns-in-Read
-returns-in-Read c = turn_step _ c.requires.stands c.in-Read.is refl c.read.ensures
+pub returns-in-Read-clause-turned : goal.returns-in-Read-clause-turned
+returns-in-Read-clause-turned c = turn_step _ c.requires.stands c.in-Read.is refl c.read.ensures.answers
 
-pub returns-in-Count : goal.returns-in-Count
-returns-in-Count c = turn_step _ c.requires.stands c.in-Count.is refl (c.count.ensures _)
+pub returns-in-Count-clause-turned : goal.returns-in-Count-clause-turned
+returns-in-Count-clause-turned c = turn_step _ c.requires.stands c.in-Count.is refl c.count.ensures.answers
 
-pub returns-in-Unknown : goal.returns-in-Unknown
-returns-in-Unknown c = turn_stop _ c.requires.stands c.in-Unknown.is refl refl refl c.stop.ensures
+pub returns-in-Unknown-clause-turned : goal.returns-in-Unknown-clause-turned
+returns-in-Unknown-clause-turned c = let h = c.stop.ensures.held in
+    rw (h.0, h.1) (turn_stop _ c.requires.stands c.in-Unknown.is refl refl refl (rw h.0 at c.stop.ensures.stops))
 
-pub returns-in-Cut : goal.returns-in-Cut
-returns-in-Cut c = turn_stop _ c.requires.stands c.in-Cut.is refl refl refl c.stop-in-Cut.ensures
+pub returns-in-Cut-clause-turned : goal.returns-in-Cut-clause-turned
+returns-in-Cut-clause-turned c = let h = c.stop-in-Cut.ensures.held in
+    rw (h.0, h.1) (turn_stop _ c.requires.stands c.in-Cut.is refl refl refl (rw h.0 at c.stop-in-Cut.ensures.stops))
 
-pub returns-in-Over : goal.returns-in-Over
-returns-in-Over c = turn_over c.requires.stands c.in-Over.is c.requires.inside c.requires.fits c.over.ensures
+pub returns-in-Over-clause-turned : goal.returns-in-Over-clause-turned
+returns-in-Over-clause-turned c = let h = c.ends.ensures.held in
+    rw (h.records, h.places, h.text) (turn_over c.requires.stands c.in-Over.is c.requires.inside c.requires.fits (rw (h.records, h.text) at c.ends.ensures.ends))
 
-pub returns-in-Snapshot : goal.returns-in-Snapshot
-returns-in-Snapshot c = a_change _ c.in-Snapshot.is refl c.changes.ensures c.if-changes.false
+pub returns-in-Snapshot-clause-turned : goal.returns-in-Snapshot-clause-turned
+returns-in-Snapshot-clause-turned c = a_change _ c.in-Snapshot.is refl c.changes.ensures c.if-changes.false
 
-pub returns-in-Write : goal.returns-in-Write
-returns-in-Write c = a_change _ c.in-Write.is refl c.changes.ensures c.if-changes.false
+pub returns-in-Write-clause-turned : goal.returns-in-Write-clause-turned
+returns-in-Write-clause-turned c = a_change _ c.in-Write.is refl c.changes.ensures c.if-changes.false
 
-pub returns-in-Delete : goal.returns-in-Delete
-returns-in-Delete c = a_change _ c.in-Delete.is refl c.changes.ensures c.if-changes.false
+pub returns-in-Delete-clause-turned : goal.returns-in-Delete-clause-turned
+returns-in-Delete-clause-turned c = a_change _ c.in-Delete.is refl c.changes.ensures c.if-changes.false

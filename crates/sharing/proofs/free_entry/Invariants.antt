@@ -1,6 +1,4 @@
 -- `sharing::free_entry` meets its contract: no entry passed is free. Assumes nothing.
-use lib.ListN.{length}
-use Prim.Native.Nat.{◌-◌}
 use Rattle.sharing.specs.Laws.{Passed}
 use Rattle.sharing.proofs.free_entry.Given as goal
 

@@ -1,6 +1,4 @@
 -- `sharing::full` meets its contract: the least node is found. Assumes nothing.
-use Prim.Native.Nat.{◌≤◌, ◌-◌}
-use lib.ListN.{length}
 use Rattle.sharing.specs.Laws.{Least}
 use Rattle.sharing.proofs.full.Given as goal
 

@@ -1,6 +1,4 @@
 -- `sharing::full_to` meets its contract: stretch by stretch no entry is free. Assumes nothing.
-use Prim.Native.Nat.{◌-◌}
-use lib.ListN.{length}
 use Rattle.sharing.specs.Laws.{Passed}
 use Rattle.sharing.proofs.full_to.Given as goal
 use Rattle.std.specs.Prelude.{◌*◌}

@@ -1,8 +1,7 @@
 -- `sharing::readers` meets its contract: stretch by stretch. Assumes nothing.
-use borrow.Author.Rules.{rules}
 use Prim.Native.Nat.{◌+◌}
 use native.Mathlib.Omega.{arith}
-use Rattle.sharing.specs.Laws.{counted_start, counted_past, counted_all}
+use Rattle.sharing.specs.Laws.{counted_start, counted_past}
 use Rattle.basics.specs.Decide.{holds}
 use Rattle.std.specs.Prelude.{◌≡◌, ◌+◌, ◌*◌}
 use Rattle.sharing.proofs.readers.Goals as goal

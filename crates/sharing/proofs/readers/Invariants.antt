@@ -1,6 +1,5 @@
 -- `sharing::readers` meets its contract: stretch by stretch. Assumes nothing.
-use Prim.Native.Nat.{ℕ, ◌*◌, ◌-◌}
-use mathlib.Core.Path.{◌≡◌}
+use Prim.Native.Nat.{◌*◌}
 use Rattle.sharing.specs.Laws.{Counted}
 use Rattle.sharing.proofs.readers.Given as goal
 

@@ -1,5 +1,4 @@
 -- `sharing::readers_in` meets its contract: of those passed, all that read the row from the place are counted. Assumes nothing.
-use Prim.Native.Nat.{◌≤◌, ◌-◌}
 use Rattle.sharing.specs.Laws.{Counted}
 use Rattle.sharing.proofs.readers_in.Given as goal
 

@@ -1,13 +1,14 @@
 -- `showing::count` meets its contract. Assumes nothing.
 use mathlib.Core.Path.{refl}
 use Rattle.answers.proofs.Laws.{number_some}
-use Rattle.records.specs.Records.{records_of}
-use Rattle.progress.specs.Laws.{answered}
+use Rattle.progress.specs.Laws.{run_answered}
 use Rattle.showing.specs.Laws.{count_refused, count_replied}
 use Rattle.showing.proofs.count.Goals as goal
 
-pub returns-in-Err : goal.returns-in-Err
-returns-in-Err c = λ places. answered c.refused.ensures.goes (count_refused (records_of _ _ _ _) refl (number_some _) c.in-Err.ensures c.refused.ensures.lays places)
+pub returns-in-Ok-clause-answers : goal.returns-in-Ok-clause-answers
+returns-in-Ok-clause-answers c = let h = c.goes_on.ensures.held in
+    run_answered c.args.run.now c.goes_on.new.self refl (h.records, h.places) (rw (← h.text) at c.goes_on.ensures.goes) (rw h.text (count_replied c.view.ensures c.in-Ok.ensures c.count_line.ensures.lays))
 
-pub returns-in-Ok : goal.returns-in-Ok
-returns-in-Ok c = λ places. answered c.on.ensures (count_replied (records_of _ _ _ _) refl refl c.in-Ok.ensures c.count_line-end.ensures places)
+pub returns-in-Err-clause-answers : goal.returns-in-Err-clause-answers
+returns-in-Err-clause-answers c = let r = c.refused.ensures in
+    run_answered c.args.run.now c.refused.new.run refl r.held r.goes (count_refused c.view.ensures (number_some _) c.in-Err.ensures r.lays)

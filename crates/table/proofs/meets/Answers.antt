@@ -1,7 +1,7 @@
 -- `table::meets` meets its contract: the node reached meets g if and only if n does, and no climb has 128 steps. Assumes nothing.
 use mathlib.Core.Path.{◌≡◌, sym, ◌∙◌}
 use native.Mathlib.Omega.{arith}
-use Rattle.table.proofs.Laws.{meets_up, meets_root, meets_marked, climb_ends}
+use Rattle.table.proofs.Laws.{meets_up, climb_ends}
 use Rattle.table.specs.Rules.{here}
 use Rattle.tree.specs.Loops.{climb_start, climb_step}
 use Rattle.table.proofs.meets.Goals as goal

@@ -1,5 +1,4 @@
 -- `table::meets` meets its contract: the node reached meets g if and only if n does, and no climb has 128 steps. Assumes nothing.
-use Prim.Native.Nat.{◌-◌}
 use mathlib.Core.Logic.{◌↔◌}
 use Rattle.table.specs.Rules.{Meets}
 use Rattle.tree.specs.Loops.{Climbing}

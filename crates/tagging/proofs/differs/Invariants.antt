@@ -1,5 +1,5 @@
 -- `tagging::differs` meets its contract. Assumes nothing.
-use Prim.Native.Nat.{ℕ, ◌≤◌, ◌<◌, ◌-◌}
+use Prim.Native.Nat.{ℕ, ◌<◌}
 use mathlib.Core.Logic.{◌≢◌}
 use Rattle.basics.specs.Decide.{at}
 use Rattle.tagging.proofs.differs.Given as goal

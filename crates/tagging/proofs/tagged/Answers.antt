@@ -1,13 +1,7 @@
 -- `tagging::tagged` meets its contract: the number of snapshots, then node by node of the list. Assumes nothing.
-use native.Mathlib.Omega.{arith}
-use borrow.Author.Count.{below_more}
-use borrow.Author.Tests.{not-false}
 use Rattle.listing.specs.InUse.{listed_in}
-use Rattle.tagging.specs.Tags.{seen_first, tags_all, tags_at_lem}
-use Rattle.basics.specs.Decide.{holds}
+use Rattle.tagging.specs.Tags.{tags_at_lem}
 use Rattle.basics.specs.Decide.{fails}
-use Rattle.std.proofs.Common.{ap}
-use Rattle.std.specs.Prelude.{not}
 use Rattle.tagging.proofs.tagged.Goals as goal
 
 pub returns-then-not-tag_read : goal.returns-then-not-tag_read

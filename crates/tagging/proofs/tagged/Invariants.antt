@@ -1,6 +1,4 @@
 -- `tagging::tagged` meets its contract: the number of snapshots, then node by node of the list. Assumes nothing.
-use Prim.Native.Nat.{◌≤◌, ◌-◌}
-use lib.ListN.{length}
 use Rattle.faults.specs.Faults.{Below}
 use Rattle.tagging.specs.Tags.{TagAt, Seen}
 use Rattle.tagging.proofs.tagged.Given as goal

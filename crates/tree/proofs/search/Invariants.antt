@@ -1,8 +1,8 @@
 -- `tree::search` meets its contract: no node passed has the tag. Assumes nothing.
-use Prim.Native.Nat.{◌≤◌, ◌-◌}
+use Prim.Native.Nat.{◌≤◌}
 use mathlib.Core.Path.{◌≡◌}
 use mathlib.Core.Option.{none}
-use Rattle.trees.specs.Trees.{tree_of, is_version}
+use Rattle.trees.specs.Trees.{is_version}
 use Rattle.basics.specs.Count.{first}
 use Rattle.tree.proofs.search.Given as goal
 

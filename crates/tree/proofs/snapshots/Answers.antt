@@ -5,7 +5,6 @@ use Rattle.tree.specs.Loops.{snapshots_first}
 use Rattle.trees.specs.Trees.{snapshots}
 use Rattle.tree.specs.Loops.{snapshot_past}
 use Rattle.tree.specs.Nodes.{snapshot_yes}
-use Rattle.trees.specs.Trees.{tree_of}
 use Rattle.trees.specs.Trees.{is_snapshot}
 use Rattle.basics.proofs.CountLaws.{count_yes}
 use Rattle.tree.proofs.snapshots.Goals as goal

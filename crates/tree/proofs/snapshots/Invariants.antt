@@ -1,7 +1,7 @@
 -- `tree::snapshots` meets its contract: the snapshots below n are counted. Assumes nothing.
-use Prim.Native.Nat.{◌≤◌, ◌<◌, ◌-◌}
+use Prim.Native.Nat.{◌≤◌, ◌<◌}
 use mathlib.Core.Path.{◌≡◌}
-use Rattle.trees.specs.Trees.{tree_of, is_snapshot}
+use Rattle.trees.specs.Trees.{is_snapshot}
 use Rattle.basics.specs.Count.{count}
 use Rattle.tree.proofs.snapshots.Given as goal
 

@@ -3,7 +3,6 @@ use mathlib.Core.Path.{◌≡◌}
 use lib.ListN.{length}
 use Rattle.basics.specs.Decide.{fails}
 use Rattle.tree.specs.Loops.{version_none}
-use Rattle.trees.specs.Trees.{tree_of}
 use borrow.Author.Rules.{rules}
 use Rattle.tree.proofs.version.Goals as goal
 

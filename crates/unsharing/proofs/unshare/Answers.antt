@@ -1,37 +1,34 @@
 -- `unsharing::unshare` meets its contract. Assumes nothing.
 use mathlib.Core.Path.{◌≡◌, sym, ◌∙◌}
-use mathlib.Core.Option.{some}
+use Prim.Native.Nat.{ℕ}
+use Rattle.std.proofs.Common.{Option}
 use Rattle.writes.proofs.UnsharingWays.{full_refused, free_passes, shared_saving, shared_to_free}
 use Rattle.owning.specs.Laws.{writable_at}
+use Rattle.records.specs.Records.{Records}
 use Rattle.sharing.specs.Laws.{free_some}
 use Rattle.sharing.specs.Sharing.{free_entry}
 use Rattle.soundness.specs.Judged.{leaves_refused, leaves_done}
 use Rattle.answers.specs.declared.Refusal.TheVariants.{PlacesFull}
-use Rattle.tree.specs.Rules.{found_at, found_missing}
-use Rattle.records.specs.Records.{records_of}
+use Rattle.tree.specs.Rules.{found_at, found_missing, found_of}
 use Rattle.unsharing.proofs.unshare.Goals as goal
 
-pub returns-in_default : goal.returns-in_default
-returns-in_default c = leaves_refused PlacesFull (full_refused _ c.requires.0.sound _ _ c.requires.1 (found_missing (free_entry c.args.node.now) (sym c.in_default.is ∙ c.free_entry.ensures)))
+-- the first free entry of the records as they are viewed is theirs
+viewed : {y z : Records} {o : Option ℕ} → y ≡ z → o ≡ found_of (free_entry y.node) → o ≡ found_of (free_entry z.node)
+viewed e h = rw (← e) h
+
+pub returns-in_default-clause-ends : goal.returns-in_default-clause-ends
+returns-in_default-clause-ends c = leaves_refused PlacesFull (full_refused _ c.requires.0.sound _ _ c.requires.1 (found_missing _ (viewed c.view.ensures c.in_default.ensures)))
 
 pub save_row-requires : goal.save_row-requires
-save_row-requires c = let known : free_entry c.args.node.now ≡ some c.in-Some.i = found_at (free_entry c.args.node.now) _ (sym c.in-Some.is ∙ c.free_entry.ensures) in
-    (writable_at c.if-v-eq0.true c.requires.0, free_some c.args.node.now _ (known))
+save_row-requires c = (writable_at c.if-v-eq0.true c.requires.0, free_some _ _ (found_at _ _ (viewed c.view.ensures c.in-Some.ensures)))
 
-pub returns-then-v-eq0 : goal.returns-then-v-eq0
-returns-then-v-eq0 c = let known : free_entry c.args.node.now ≡ some c.in-Some.i = found_at (free_entry c.args.node.now) _ (sym c.in-Some.is ∙ c.free_entry.ensures) in
-    let a = c.args in
-    let z = records_of a.size a.tree a.node.now a.row.now in
-    let i = c.in-Some.i in
-    leaves_done (free_passes z c.requires.0.sound a.v a.r.0 i (known)) (c.save_row.ensures ∙ sym (shared_saving z a.places.now a.r.0 a.bytes.now a.v i (known) c.if-v-eq0.true))
+pub move_row-requires : goal.move_row-requires
+move_row-requires c = (c.requires.0, c.if-v-eq0.false, free_some _ _ (found_at _ _ (viewed c.view.ensures c.in-Some.ensures)))
 
-pub move_row-next-requires : goal.move_row-next-requires
-move_row-next-requires c = let known : free_entry c.args.node.now ≡ some c.in-Some.i = found_at (free_entry c.args.node.now) _ (sym c.in-Some.is ∙ c.free_entry.ensures) in
-    (c.requires.0, c.if-v-eq0.false, free_some c.args.node.now _ (known))
+pub returns-then-v-eq0-clause-ends : goal.returns-then-v-eq0-clause-ends
+returns-then-v-eq0-clause-ends c = let known = found_at _ _ (viewed c.view.ensures c.in-Some.ensures) in
+    leaves_done (free_passes _ c.requires.0.sound _ _ _ known) (c.save_row.ensures.saved ∙ sym (shared_saving _ _ _ _ _ _ known c.if-v-eq0.true))
 
-pub returns : goal.returns
-returns c = let known : free_entry c.args.node.now ≡ some c.in-Some.i = found_at (free_entry c.args.node.now) _ (sym c.in-Some.is ∙ c.free_entry.ensures) in
-    let a = c.args in
-    let z = records_of a.size a.tree a.node.now a.row.now in
-    let i = c.in-Some.i in
-    leaves_done (free_passes z c.requires.0.sound a.v a.r.0 i (known)) (c.move_row-next.ensures ∙ sym (shared_to_free z a.places.now a.r.0 a.bytes.now a.v i (known) c.if-v-eq0.false))
+pub returns-else-v-eq0-clause-ends : goal.returns-else-v-eq0-clause-ends
+returns-else-v-eq0-clause-ends c = let known = found_at _ _ (viewed c.view.ensures c.in-Some.ensures) in
+    leaves_done (free_passes _ c.requires.0.sound _ _ _ known) (c.move_row.ensures.moved ∙ sym (shared_to_free _ _ _ _ _ _ known c.if-v-eq0.false))
