@@ -69,8 +69,56 @@ fn has_function(name: &str, function: &str) -> bool {
     })
 }
 
+/// Every source of every crate.
+fn sources() -> Vec<String> {
+    let crates = fs::read_dir(project().join("crates")).expect("crates/ is there");
+    let folders = crates.map(|entry| entry.expect("a crate").path().join("src"));
+    let files = folders
+        .filter_map(|folder| fs::read_dir(folder).ok())
+        .flatten();
+    let paths = files.map(|entry| entry.expect("a source").path());
+    paths.map(|path| text(&path)).collect()
+}
+
+/// Has a type this method, in an `impl` of its own?
+fn has_method(kind: &str, method: &str) -> bool {
+    let (plain, lent) = (format!(" fn {method}("), format!(" fn {method}<"));
+    let is_of_kind = |head: &str| {
+        let words = head.split(|c: char| !c.is_ascii_alphanumeric());
+        head.starts_with("impl") && words.into_iter().any(|word| word == kind)
+    };
+    sources().iter().any(|code| {
+        let blocks = code.split("\n}").map(|item| match item.rfind("\nimpl") {
+            Some(at) => &item[at + 1..],
+            None => "",
+        });
+        blocks.into_iter().any(|block| {
+            let head = block.lines().next().unwrap_or_default();
+            is_of_kind(head) && (block.contains(&plain) || block.contains(&lent))
+        })
+    })
+}
+
+/// The methods of a quoted name `Type::method` or `Type::{method, method}`.
+fn methods(name: &str) -> Option<(&str, Vec<&str>)> {
+    let (kind, members) = name.split_once("::")?;
+    if !kind.starts_with(|c: char| c.is_ascii_uppercase()) {
+        return None;
+    }
+    let members = members.trim_matches(['{', '}']).split(", ");
+    let members: Vec<&str> = members.collect();
+    members
+        .iter()
+        .all(|word| is_name(word))
+        .then_some((kind, members))
+}
+
 /// What a quoted name says that is not so, if anything. Patterns and names of other things pass.
 fn fault(name: &str) -> Option<String> {
+    if let Some((kind, members)) = methods(name) {
+        let missing = members.iter().find(|method| !has_method(kind, method));
+        return missing.map(|method| format!("no such method: {method}"));
+    }
     let pattern = name.contains(['*', ' ', '<', 'X']) || name.contains("NAME");
     if pattern {
         return None;
@@ -124,4 +172,9 @@ fn a_name_that_is_not_there_is_found() {
     assert_eq!(fault("measures::within"), None);
     assert!(fault("measures::no_such_function").is_some());
     assert!(fault("no_such_crate::function").is_some());
+    assert_eq!(fault("Size::within"), None);
+    assert_eq!(fault("Row::{is_below, home, number}"), None);
+    assert!(fault("Size::no_such_method").is_some());
+    assert!(fault("Row::within").is_some());
+    assert!(fault("Row::{is_below, within}").is_some());
 }

@@ -1,11 +1,10 @@
 // The call that reads a row of a version. It changes nothing.
 #![tactic(auto)]
 
-ghost use Rattle.std.specs.Prelude.{IfOk};
 ghost use Rattle.answers.specs.Results.{answer_of};
 ghost use Rattle.records.specs.Lent.{seen};
 ghost use Rattle.reads.specs.Reads.{ReadEnds, ReadPart};
-ghost use Rattle.queries.specs.Lent.{bytes_of, sharers_of};
+ghost use Rattle.queries.specs.Lent.{bytes_of, sharers_of, part_of};
 
 use answers::Refusal;
 use measures::Row;
@@ -21,7 +20,7 @@ pub struct Lent<'a> {
 // Refusals: 20, 2, 3, 21.
 pub fn read<'a>(view: &View, places: &'a [u8], tag: u16, r: Row) -> Result<Lent<'a>, Refusal>
     ensures ends { ReadEnds (seen view.now) places.now tag r.0 (answer_of result) (bytes_of result) (sharers_of result) }
-    ensures part { IfOk result (λ lent. ReadPart (seen view.now) places.now tag r.0 places.entry.ref_ptr lent.bytes.ref_ptr) }
+    ensures part { ReadPart (seen view.now) places.now tag r.0 places.entry.ref_ptr (part_of places.entry.ref_ptr result) }
 {
     if !soundness::sound(view) {
         return Err(Refusal::Unsound);

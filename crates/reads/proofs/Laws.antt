@@ -1,5 +1,5 @@
 -- The ways out of read, one for each test on sound records, and that a place read lies inside the places. Assumes nothing.
-use Rattle.std.specs.Prelude.{◌≡◌, not, ℕ, suc, ◌+◌, ◌*◌, ◌≤◌, ◌<◌, leb, length}
+use Rattle.std.specs.Prelude.{◌≡◌, refl, not, ℕ, suc, ◌+◌, ◌*◌, ◌≤◌, ◌<◌, leb, length}
 use Rattle.std.proofs.Common.{sym, ◌∙◌, ap, mul-le-mul_right, suc-mul, arith, eq-eqb, ne_eqb, le-leb}
 use mathlib.Core.List.{List, [], ◌∷◌}
 use Rattle.std.proofs.Math.Option.{none, some}
@@ -25,6 +25,13 @@ use Rattle.soundness.specs.Parts.{few_places}
 use Rattle.placing.specs.Placing.{Inside, Spot, Lies}
 use Rattle.reads.specs.Reads.{read_tests, row_of_tag, sharers_of_tag, read_answer, part_from, ReadEnds, ReadPart}
 
+-- the empty part at the front of what is lent
+abbrev Nothing : Spot → List ℕ → Spot → Type 0
+Nothing whole bytes part = (bytes ≡ []) × Lies whole 0 part
+
+pub nothing : (whole : Spot) → Nothing whole [] whole
+nothing whole = (refl, record { memory = refl; offset = omega arith })
+
 module _ (z : Records) (places : List ℕ) (tag r : ℕ) where
   -- a read's whole promise: what it answers, and which part of the places it hands out
   abbrev Promise : ℕ → ℕ → Spot → List ℕ → Spot → Type 0
@@ -37,11 +44,11 @@ module _ (z : Records) (places : List ℕ) (tag r : ℕ) where
   row_test = (leb z.size.rows r, BadRow) ∷ tag_test
 
   module _ (s : Sound z) where
-    read_refused : (x : Refusal) → refusal (read_tests z (length places) tag r) ≡ some x → ReadEnds z places tag r (number x) [] 0
-    unfolding read_answer
-    read_refused x e = judged_sound s (rw e)
+    read_refused : (x : Refusal) → refusal (read_tests z (length places) tag r) ≡ some x → {whole part : Spot} {bytes : List ℕ} → Nothing whole bytes part → Promise (number x) 0 whole bytes part
+    unfolding read_answer part_from
+    read_refused x e (h, l) = (judged_sound s (rw (e, h)), judged_sound s (rw e l))
 
-    pub read_length : (length places ≡ z.size.places * z.size.width → ⊥) → ReadEnds z places tag r 2 [] 0
+    pub read_length : (length places ≡ z.size.places * z.size.width → ⊥) → {whole part : Spot} {bytes : List ℕ} → Nothing whole bytes part → Promise 2 0 whole bytes part
     unfolding read_tests
     read_length h = read_refused BadLength (refusal_here BadLength _ (not_yes (ne_eqb _ _ h)))
 
@@ -50,7 +57,7 @@ module _ (z : Records) (places : List ℕ) (tag r : ℕ) where
       unfolding read_tests row_test tag_test
       length_passed = refusal_next BadLength _ (not_no (eq-eqb _ _ p))
 
-      pub read_row : (r < z.size.rows → ⊥) → ReadEnds z places tag r 3 [] 0
+      pub read_row : (r < z.size.rows → ⊥) → {whole part : Spot} {bytes : List ℕ} → Nothing whole bytes part → Promise 3 0 whole bytes part
       unfolding row_test
       read_row h = read_refused BadRow (length_passed ∙ refusal_here BadRow tag_test (le-leb z.size.rows r (omega arith)))
 
@@ -59,7 +66,7 @@ module _ (z : Records) (places : List ℕ) (tag r : ℕ) where
         unfolding row_test
         row_passed = length_passed ∙ refusal_next BadRow tag_test (lt-leb _ _ l)
 
-        pub read_tag : version z.tree tag ≡ none → ReadEnds z places tag r 21 [] 0
+        pub read_tag : version z.tree tag ≡ none → {whole part : Spot} {bytes : List ℕ} → Nothing whole bytes part → Promise 21 0 whole bytes part
         unfolding tag_test lives
         read_tag v = read_refused UnknownTag (row_passed ∙ refusal_here UnknownTag [] (rw v))
 

@@ -1,7 +1,7 @@
 -- `changing::delete` meets its contract. Assumes nothing.
-use Rattle.progress.specs.Laws.{run_answered}
 use Rattle.changing.specs.Laws.{delete_replied}
 use Rattle.changing.proofs.delete.Goals as goal
 
 pub returns-clause-answers : goal.returns-clause-answers
-returns-clause-answers c = run_answered c.args.run.now c.reply.new.run c.delete-deleted.ensures.same.size c.reply.ensures.held c.reply.ensures.goes (delete_replied c.delete-deleted.ensures.ends c.reply.ensures.lays)
+returns-clause-answers c = let d = c.delete-deleted.ensures in
+    λ places. rw d.same.size (delete_replied d.ends (rw (c.from.ensures, c.answer_of.ensures) at c.plain_line.ensures.lays))

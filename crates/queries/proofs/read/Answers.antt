@@ -6,23 +6,40 @@ use Rattle.records.specs.Lent.{seen}
 use Rattle.trees.specs.Trees.{version}
 use Rattle.records.specs.Sound.{Sound}
 use Rattle.tree.specs.Rules.{found_at, found_missing}
-use Rattle.reads.proofs.Laws.{read_length, read_row, read_tag, read_done, version_used, looking, read_inside}
+use Rattle.soundness.specs.Judged.{judged_unsound}
+use Rattle.reads.proofs.Laws.{nothing, read_length, read_row, read_tag, read_done, version_used, looking, read_inside}
 use Rattle.basics.specs.Decide.{holds}
 use Rattle.basics.specs.Decide.{fails}
 use Rattle.queries.proofs.read.Goals as goal
 
+pub returns-then-not-sound-clause-part : goal.returns-then-not-sound-clause-part
+returns-then-not-sound-clause-part c = judged_unsound (fails c.sound.result c.sound.ensures c.if-not-sound.true) (nothing _).1
+
 pub returns-then-places-size-clause-ends : goal.returns-then-places-size-clause-ends
 returns-then-places-size-clause-ends c = let judged : Sound (seen c.args.view.now) = holds c.sound.result c.sound.ensures c.if-not-sound.false in
-    read_length _ _ _ _ (judged) c.if-places-size.true
+    (read_length _ _ _ _ (judged) c.if-places-size.true (nothing (0, 0))).0
+
+pub returns-then-places-size-clause-part : goal.returns-then-places-size-clause-part
+returns-then-places-size-clause-part c = let judged : Sound (seen c.args.view.now) = holds c.sound.result c.sound.ensures c.if-not-sound.false in
+    (read_length _ _ _ _ (judged) c.if-places-size.true (nothing _)).1
 
 pub returns-then-not-is_below-clause-ends : goal.returns-then-not-is_below-clause-ends
 returns-then-not-is_below-clause-ends c = let judged : Sound (seen c.args.view.now) = holds c.sound.result c.sound.ensures c.if-not-sound.false in
-    read_row _ _ _ _ (judged) c.if-places-size.false (fails c.is_below.result c.is_below.ensures c.if-not-is_below.true)
+    (read_row _ _ _ _ (judged) c.if-places-size.false (fails c.is_below.result c.is_below.ensures c.if-not-is_below.true) (nothing (0, 0))).0
+
+pub returns-then-not-is_below-clause-part : goal.returns-then-not-is_below-clause-part
+returns-then-not-is_below-clause-part c = let judged : Sound (seen c.args.view.now) = holds c.sound.result c.sound.ensures c.if-not-sound.false in
+    (read_row _ _ _ _ (judged) c.if-places-size.false (fails c.is_below.result c.is_below.ensures c.if-not-is_below.true) (nothing _)).1
 
 pub returns-in_default-clause-ends : goal.returns-in_default-clause-ends
 returns-in_default-clause-ends c = let judged : Sound (seen c.args.view.now) = holds c.sound.result c.sound.ensures c.if-not-sound.false in
-    read_tag _ _ _ _ (judged) c.if-places-size.false (holds c.is_below.result c.is_below.ensures c.if-not-is_below.false)
-    (found_missing (version c.args.view.now.tree.now c.args.tag) (sym c.in_default.is ∙ c.version.ensures))
+    (read_tag _ _ _ _ (judged) c.if-places-size.false (holds c.is_below.result c.is_below.ensures c.if-not-is_below.false)
+    (found_missing (version c.args.view.now.tree.now c.args.tag) (sym c.in_default.is ∙ c.version.ensures)) (nothing (0, 0))).0
+
+pub returns-in_default-clause-part : goal.returns-in_default-clause-part
+returns-in_default-clause-part c = let judged : Sound (seen c.args.view.now) = holds c.sound.result c.sound.ensures c.if-not-sound.false in
+    (read_tag _ _ _ _ (judged) c.if-places-size.false (holds c.is_below.result c.is_below.ensures c.if-not-is_below.false)
+    (found_missing (version c.args.view.now.tree.now c.args.tag) (sym c.in_default.is ∙ c.version.ensures)) (nothing _)).1
 
 pub lookup-looked-requires : goal.lookup-looked-requires
 lookup-looked-requires c = let judged : Sound (seen c.args.view.now) = holds c.sound.result c.sound.ensures c.if-not-sound.false in
