@@ -105,7 +105,7 @@ fn methods(name: &str) -> Option<(&str, Vec<&str>)> {
     if !kind.starts_with(|c: char| c.is_ascii_uppercase()) {
         return None;
     }
-    let members = members.trim_matches(['{', '}']).split(", ");
+    let members = members.trim_matches(['{', '}']).split(',').map(str::trim);
     let members: Vec<&str> = members.collect();
     members
         .iter()

@@ -1,8 +1,10 @@
 // The call that reads a row of a version. It changes nothing.
 #![tactic(auto)]
 
+ghost use Rattle.std.specs.Prelude.{◌≡◌};
 ghost use Rattle.answers.specs.Results.{answer_of};
 ghost use Rattle.records.specs.Lent.{seen};
+ghost use Rattle.placing.specs.Placing.{Lies};
 ghost use Rattle.reads.specs.Reads.{ReadEnds, ReadPart};
 ghost use Rattle.queries.specs.Lent.{bytes_of, sharers_of, part_of};
 
@@ -40,4 +42,15 @@ pub fn read<'a>(view: &View, places: &'a [u8], tag: u16, r: Row) -> Result<Lent<
         bytes: placing::part(places, size.width, looked.place),
         sharers: looked.sharers,
     })
+}
+
+// The part of the places that a read hands out: of a refused one the empty part at their front.
+pub fn part<'a>(read: Result<Lent<'a>, Refusal>, places: &'a [u8]) -> &'a [u8]
+    ensures bytes { result.now ≡ bytes_of read.entry }
+    ensures lies { Lies (part_of places.entry.ref_ptr read.entry) 0 result.ref_ptr }
+{
+    match read {
+        Ok(lent) => lent.bytes,
+        Err(_) => &places[..0],
+    }
 }

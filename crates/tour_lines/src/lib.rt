@@ -47,11 +47,8 @@ impl<'a> Store<'a> {
     pub fn show_read(&self, rt: &impl Print, tag: u16, row: usize) -> io::Result<()> {
         let read = queries::read(&self.records, self.places, tag, Row(row));
         let answer = answer_of(&read);
-        let (bytes, sharers) = read.map_or(
-            (&self.places[..0], 0),
-            |lent| (lent.bytes, lent.sharers),
-        );
-        let bytes = Hex(bytes);
+        let bytes = Hex(queries::part(read, self.places));
+        let sharers = read.map_or(0, |lent| lent.sharers);
         println!(rt; "read tag {tag} row {row}: answer {answer}, sharers {sharers}, bytes {bytes}")
     }
 }
